@@ -117,25 +117,22 @@ pub record Chosen (store : Store) (i : Incident) (x y : List ℕ) : Type 0 where
   pub goes : (s : ShowState) (es : List Event) → IsOn s es store first second → Goes s es store i x y
 
 -- nothing is added
-pub as_before : (s : ShowState) (es : List Event) (store : Store) (x y : List ℕ) → IsOn s es store x y
+pub as_before : {s : ShowState} {es : List Event} {store : Store} {x y : List ℕ} → IsOn s es store x y
     → IsOn s (es ++ []) store x y
-as_before s es store x y on = let P : List Event → Type 0 = λ fs. IsOn s fs store x y in
-    subst P (sym (append-nil es)) on
+as_before {es = es} on = rw (append-nil es) on
 
-pub resting_at : (s : ShowState) (es : List Event) (one other : Contents) (x y : List ℕ)
+pub resting_at : {s : ShowState} {es : List Event} {one other : Contents} {x y : List ℕ}
     → IsTrue (is_state (after_events s es)) → Stands x y (after_events s es) → IsOn s es (at_rest one other) x y
-resting_at s es one other x y rules h = record { has = h; owed = tt; rules = rules }
+resting_at rules h = record { has = h; owed = tt; rules = rules }
 
 -- a stop leaves the state from before or the one after the batch
 resting_either : (s : ShowState) (es batch : List Event) (one other : Contents) (x y : List ℕ)
     → IsTrue (is_state (after_events s es)) → IsTrue (are_acceptable (after_events s es) batch)
     → StandsEither (after_events s es) (after_events (after_events s es) batch) x y
     → IsOn s (es ++ batch) (at_rest one other) x y ⊎ IsOn s es (at_rest one other) x y
-resting_either s es batch one other x y rules ok (inl h) = inr (resting_at s es one other x y rules h)
+resting_either s es batch one other x y rules ok (inl h) = inr (resting_at rules h)
 resting_either s es batch one other x y rules ok (inr h) =
-    let P : ShowState → Type 0 = λ t. Stands x y t in
-    inl (resting_at s (es ++ batch) one other x y (rules_after s es batch rules ok)
-    (subst P (sym (after_events-append s es batch)) h))
+    inl (resting_at (rules_after s es batch rules ok) (rw (after_events-append s es batch) h))
 
 with_cut : {A B : Type 0} → A ⊎ B → A ⊎ ((true ≡ true) × B)
 with_cut (inl a) = inl a
@@ -183,16 +180,15 @@ goes_running : (s : ShowState) (es : List Event) (owed : List (ℕ × Send)) (i 
     → Goes s es (running (after_events s es) owed) i x y
 goes_running s es owed (committed inputs) x y on ok may = goes_committed s es owed inputs x y on
 goes_running s es owed handed_out x y on ok may =
-    inl (as_before s es (running (after_events s es) []) x y (record { has = refl; owed = tt; rules = on.rules }))
+    inl (as_before (record { has = refl; owed = tt; rules = on.rules }))
 goes_running s es owed (handed_some n) x y on ok may =
-    inl (as_before s es (running (after_events s es) (drop n owed)) x y
-    (record {
+    inl (as_before (record {
       has = refl;
       owed = each_dropped (λ (m : ℕ × Send). IsDue s es m.1) n owed on.owed;
       rules = on.rules;
     }))
 goes_running s es owed (stopped n one other) x y on ok may =
-    inl (as_before s es (at_rest one other) x y (resting_at s es one other x y on.rules (ok x y may.0 may.1)))
+    inl (as_before (resting_at on.rules (ok x y may.0 may.1)))
 goes_running s es owed (stopped_in_commit inputs n one other) x y on ok may =
     let before : ShowState = after_events s es in
     let P : ShowState → Type 0 = λ t. StandsEither before t x y in
@@ -250,7 +246,7 @@ chosen_stopped then_one then_other one other x y (inl left) = record {
   first = x;
   second = y;
   may = left;
-  goes = λ s es on. inr (refl, resting_at s es one other x y on.rules on.has);
+  goes = λ s es on. inr (refl, resting_at on.rules on.has);
 }
 chosen_stopped then_one then_other one other x y (inr since) = record {
   first = since.first;
@@ -277,7 +273,7 @@ chosen_at_rest then_one then_other (refused one other) x y ok may = record {
   first = x;
   second = y;
   may = ok x y may.0 may.1;
-  goes = λ s es on. inl (as_before s es (at_rest one other) x y (resting_at s es one other x y on.rules on.has));
+  goes = λ s es on. inl (as_before (resting_at on.rules on.has));
 }
 chosen_at_rest then_one then_other _ x y ok may = absurd ok
 
@@ -318,11 +314,10 @@ recovers_first then_one then_other first x y (inr since) =
     (stands_first since.first since.second since.before
     (first since.first since.second since.left_first since.left_second) since.stood) since.stands)
 
-pub unformed_at : (s : ShowState) (es : List Event) (one other : Contents) (x y : List ℕ)
+pub unformed_at : {s : ShowState} {es : List Event} {one other : Contents} {x y : List ℕ}
     → IsTrue (is_state (after_events s es)) → after_events s es ≡ empty_state → LeavesFirst one other
     → IsOn s es (unformed one other) x y
-unformed_at s es one other x y rules same first =
-    record { has = (same, first); owed = tt; rules = rules }
+unformed_at rules same first = record { has = (same, first); owed = tt; rules = rules }
 
 goes_unformed : (s : ShowState) (es : List Event) (then_one then_other : Contents) (i : Incident) (x y : List ℕ)
     → IsTrue (is_state (after_events s es)) → after_events s es ≡ empty_state → LeavesFirst then_one then_other
@@ -331,8 +326,7 @@ goes_unformed : (s : ShowState) (es : List Event) (then_one then_other : Content
 goes_unformed s es then_one then_other formed x y rules same first ok =
     inl (begins s es [] empty_state x y rules refl (sym same))
 goes_unformed s es then_one then_other (stopped_in_form one other) x y rules same first ok =
-    inl (as_before s es (unformed one other) x y
-    (unformed_at s es one other x y rules same
+    inl (as_before (unformed_at rules same
     (λ u v left_u left_v. still_first then_one then_other first u v (ok u v left_u left_v))))
 goes_unformed s es then_one then_other (recovered t) x y rules same first ok =
     let stood : ok.closed.before ≡ empty_state =
@@ -342,13 +336,13 @@ goes_unformed s es then_one then_other (recovered t) x y rules same first ok =
 goes_unformed s es then_one then_other (stopped_in_recovery one other) x y rules same first ok =
     inr (
       refl,
-      unformed_at s es one other x y rules same
+      unformed_at rules same
           (λ u v left_u left_v. recovers_first then_one then_other first u v (ok u v left_u left_v)),
     )
 goes_unformed s es then_one then_other (refused one other) x y rules same first ok =
-    inl (as_before s es (unformed one other) x y
-    (unformed_at s es one other x y rules same (λ u v left_u left_v. let left = ok u v left_u left_v in first u v
-    left.0 left.1)))
+    inl (as_before (unformed_at rules same (λ u v left_u left_v.
+    let left = ok u v left_u left_v in
+    first u v left.0 left.1)))
 goes_unformed s es then_one then_other _ x y rules same first ok = absurd ok
 
 chosen_unformed : (then_one then_other : Contents) (i : Incident) (x y : List ℕ) → PermitsUnformed then_one then_other i

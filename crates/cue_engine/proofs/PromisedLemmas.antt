@@ -35,7 +35,7 @@ record Found (s : ShowState) (es : List Event) (store : Store) (is : List Incide
 found_none : (s : ShowState) (es : List Event) (store : Store) (x y : List ℕ) → IsOn s es store x y
     → Found s es store [] x y
 found_none s es store x y on =
-    record { kept = []; prefix = refl; has = (as_before s es store x y on).has; due = tt }
+    record { kept = []; prefix = refl; has = (as_before on).has; due = tt }
 
 -- what is handed over in one incident, and then in the others
 due_then : (s : ShowState) (es fs : List Event) (store : Store) (i : Incident) (is : List Incident)
@@ -120,9 +120,9 @@ starts s (running t owed) x y h begins may =
       owed = pending_due s [] h;
       rules = h;
     })
-starts s (at_rest one other) x y h begins may = resting_at s [] one other x y h (begins x y may.0 may.1)
+starts s (at_rest one other) x y h begins may = resting_at h (begins x y may.0 may.1)
 starts s (unformed one other) x y h begins may =
-    unformed_at s [] one other x y h begins.1 (λ u v left_u left_v. inl (begins.0 u v left_u left_v))
+    unformed_at h begins.1 (λ u v left_u left_v. inl (begins.0 u v left_u left_v))
 
 reads_on : (store : Store) (x y : List ℕ) → MayRead store x y → MayOn store x y
 reads_on (running t owed) x y may = tt

@@ -1,6 +1,6 @@
 -- What a tick or a recovery cancels fits one record.
-use Rattle.std.proofs.Common.{Result, Ok, Err, subst, ◌≡◌, ℕ, ◌*◌, ◌≤◌, ap, not, ◌&&◌, Bool, List, [], ◌∷◌, length, map}
-use Rattle.std.proofs.Common.{filter, refl, sym, ◌∙◌, arith, length-append, IsTrue}
+use Rattle.std.proofs.Common.{Result, Ok, Err, ◌≡◌, ℕ, ◌*◌, ◌≤◌, ap, not, ◌&&◌, Bool, List, [], ◌∷◌, length, map}
+use Rattle.std.proofs.Common.{filter, refl, ◌∙◌, arith, length-append, IsTrue}
 use Rattle.std.specs.Prelude.{IfOk}
 use Rattle.std.specs.List.{flat_map}
 use Rattle.std.proofs.lemmas.Bool.{leb-true}
@@ -14,7 +14,6 @@ use Rattle.cue_exchange.specs.Live.{are_live}
 use Rattle.cue_exchange.proofs.LiveLemmas.{room_of}
 use Rattle.cue_exchange.proofs.ListLemmas.{both}
 use Rattle.cue_show.specs.Show.{is_show}
-use Rattle.cue_core.specs.declared.event.Event.{Event}
 use Rattle.cue_core.specs.declared.event.Event.TheVariants.{Cancel}
 use Rattle.cue_core.specs.State.{ShowState, is_state, are_tied}
 use Rattle.cue_core.specs.Happenings.{cancels}
@@ -59,7 +58,6 @@ pub cancels_are : (test : Attempt → Bool) (r : Reason) (s : ShowState) (seqs :
 cancels_are test r s seqs e = ap (map (λ (q : ℕ). Cancel q r)) e
     ∙ map-map (λ (q : ℕ). Cancel q r) (λ (a : Attempt). a.seq) (filter test s.live)
 
-pub on_items : {V E : Type 0} (r : Result V E) (items : V → List Event) (P : List Event → Type 0) (es : List Event)
-    → IfOk r (λ (v : V). items v ≡ es) → P es → IfOk r (λ (v : V). P (items v))
-on_items (Ok v) items P es e h = subst P (sym e) h
-on_items (Err x) items P es e h = e
+pub on_batch : {V E : Type 0} {P Q : V → Type 0} (r : Result V E) → IfOk r P → ((v : V) → P v → Q v) → IfOk r Q
+on_batch (Ok v) holds follows = follows v holds
+on_batch (Err x) holds follows = holds

@@ -48,8 +48,7 @@ gave_join size left mid left_then is js g h =
 -- some were handed over, and then others
 all_handed_both : {told mid new : Option (List Handed)} {os ps : List (ℕ × List ℕ)} {n m : ℕ}
     → AllHanded told os n mid → AllHanded mid ps m new → AllHanded told (os ++ ps) (n + m) new
-all_handed_both {told} {mid} {new} {os} {ps} {n} {m} first more =
-    parts_all told mid new (os ++ ps) ps n m (record { sent = os; together = refl; all = first }) more
+all_handed_both {os = os} first more = parts_all (record { sent = os; together = refl; all = first }) more
 
 -- none was handed over yet
 pub so_far_none : (told : Option (List Handed)) (owed : List (ℕ × List ℕ)) → CountedSoFar told owed owed 0 told
@@ -63,7 +62,7 @@ module _ {told mid told_then : Option (List Handed)} {owed left : List (ℕ × L
       → CountedSoFar told owed rest all seen
   so_far_more k {rest} others same more = record {
     refused = so_far.refused + refused;
-    handed = rw same (part_more told mid told_then owed left rest k so_far.refused refused others so_far.handed more);
+    handed = rw same (part_more k others so_far.handed more);
     counted = omega (arith, counts, so_far.counted);
   }
 
@@ -71,7 +70,7 @@ module _ {told mid told_then : Option (List Handed)} {owed left : List (ℕ × L
   pub so_far_all : AllHanded mid left refused told_then → HandedCounted told owed all told_then
   so_far_all more = record {
     refused = so_far.refused + refused;
-    handed = parts_all told mid told_then owed left so_far.refused refused so_far.handed more;
+    handed = parts_all so_far.handed more;
     counted = omega (arith, counts, so_far.counted);
   }
 
@@ -144,6 +143,6 @@ none_has_run {size = size} {left = left} {told = told} no_turns all_sent same_s 
   number = sym no_turns;
   state = same_s;
   refused = 0;
-  handed = rw same_told (handed_first told told [] [] 0 0 (omega arith) (handed_none told []));
+  handed = rw same_told (handed_first 0 (omega arith) (handed_none told []));
   counted = all_sent;
 }

@@ -10,14 +10,8 @@ ghost use Rattle.cue_keeper.specs.Observed as kept;
 ghost use Rattle.cue_keeper.specs.Opening.{FormsStore};
 ghost use Rattle.cue_engine.specs.Recovery.{ClosedFrom, IsLeftOrStands};
 ghost use Rattle.cue_engine.specs.Observed.{state_of, first_of, second_of};
-ghost use Rattle.cue_engine.specs.Opening.{
-  IsNew,
-  IsRecovered,
-  IsClosedFrom,
-  IsOfCancels,
-  RefusesRecovery,
-  RefusesCancels,
-};
+ghost use Rattle.cue_engine.specs.Opening.{IsNew, IsRecovered, RefusesRecovery};
+ghost use Rattle.cue_engine.specs.Opening.{IsClosedFrom, IsOfCancels, RefusesCancels};
 
 use super::Engine;
 use crate::drafts::Draft;

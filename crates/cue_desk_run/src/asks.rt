@@ -4,15 +4,15 @@ ghost use Rattle.std.specs.Prelude.{◌≡◌};
 ghost use Rattle.cue_desk_run.specs.Hearing.{heard_of, unheard};
 
 use crate::addresses::local;
+use crate::letters::{Letter, is_status};
 use crate::naming::name_datagram;
 use cue_asker::AskerName;
 use cue_desk::answered::answer_in;
 use cue_desk::orders::DeskCommand;
 use cue_desk::replying::{Replied, read_reply};
-use cue_desk::together::{address_with, condensed, datagram_with};
+use cue_desk::together::condensed;
 use cue_osc::MAX_LEN;
-use cue_show::CueNo;
-use cue_station::heard::{Heard, Send};
+use cue_station::heard::Heard;
 use mio::net::UdpSocket;
 use mio::{Interest, Registry, Token};
 use std::alloc::Global;
@@ -25,21 +25,13 @@ const MAX_PRESSES: usize = 2;
 /// How many datagrams are read of one ask before the others have their turn.
 const MAX_READ: u32 = 64;
 
-/// How many bytes of an address a reply shows.
-const SHOWN: usize = 64;
-
 /// The token of these sockets in a poll.
 const REPLIES: Token = Token(2);
 
 /// An ask whose answer has not come.
 #[derive(Drop)]
 struct Ask {
-    number: u64,
-    is_status: bool,
-    // How many cues are asked for: 1, also if none is.
-    count: u8,
-    // The address that was asked, as a reply shows it.
-    shown: Vec<u8>,
+    letter: Letter,
     socket: UdpSocket,
 }
 
@@ -58,19 +50,6 @@ fn open_socket<R: Net>(rt: &R, registry: &Registry, port: u16) -> io::Result<Udp
     socket.connect(local(port))?;
     registry.register(&mut socket, REPLIES, Interest::READABLE)?;
     Ok(socket)
-}
-
-// The datagram that asks it, and stands these others by, too.
-fn message_of(alloc: Global, order: DeskCommand, others: &[CueNo]) -> io::Result<Vec<u8>> {
-    let Ok(message) = datagram_with(alloc, order, others) else {
-        return Err(io::Error::from(ErrorKind::OutOfMemory));
-    };
-    Ok(message)
-}
-
-// How many cues there are with these others.
-fn count_of(others: &[CueNo]) -> u8 {
-    u8::try_from(others.len().saturating_add(1)).unwrap_or(u8::MAX)
 }
 
 // Says who asks from this socket, once. Nobody waits for what becomes of that.
@@ -97,9 +76,40 @@ fn send_after_name(socket: &UdpSocket, message: &[u8]) -> io::Result<()> {
     Ok(())
 }
 
-// Whether the message is a question for the status.
-fn is_status(order: DeskCommand) -> bool {
-    matches!(order, DeskCommand::Status)
+// Sends a letter from this socket, once, and before it who asks, if that is to be said.
+fn post(
+    alloc: Global,
+    socket: &UdpSocket,
+    name: Option<AskerName>,
+    letter: &Letter,
+) -> io::Result<()> {
+    match name {
+        Some(name) if !letter.is_status => {
+            send_name(alloc, socket, name)?;
+            send_after_name(socket, &letter.message)
+        }
+        _ => {
+            socket.send(&letter.message)?;
+            Ok(())
+        }
+    }
+}
+
+// A socket of its own, from which the letter was sent.
+fn open_and_post<R: Net + AllocGlobal>(
+    rt: &R,
+    registry: &Registry,
+    (port, name): (u16, Option<AskerName>),
+    letter: &Letter,
+) -> io::Result<UdpSocket> {
+    let socket = open_socket(rt, registry, port)?;
+    match post(rt.alloc(), &socket, name, letter) {
+        Ok(()) => Ok(socket),
+        Err(why) => {
+            drop(socket);
+            Err(why)
+        }
+    }
 }
 
 /// What comes to a socket.
@@ -137,40 +147,10 @@ fn heard_of(number: u64, came: Came) -> Option<Heard>
 }
 
 impl Ask {
-    // Sends the message, once, from a socket of its own, and before it who presses, if that is to be said.
-    fn send<R: Net + AllocGlobal>(
-        rt: &R,
-        registry: &Registry,
-        (port, name): (u16, Option<AskerName>),
-        send: Send,
-        others: &[CueNo],
-    ) -> io::Result<Ask> {
-        let mut shown = address_with(rt.alloc(), send.order, others)?;
-        shown.truncate(SHOWN);
-        let message = message_of(rt.alloc(), send.order, others)?;
-        let socket = open_socket(rt, registry, port)?;
-        match name {
-            Some(name) if !is_status(send.order) => {
-                send_name(rt.alloc(), &socket, name)?;
-                send_after_name(&socket, &message)?;
-            }
-            _ => {
-                socket.send(&message)?;
-            }
-        }
-        Ok(Ask {
-            number: send.ask,
-            is_status: is_status(send.order),
-            count: count_of(others),
-            shown,
-            socket,
-        })
-    }
-
     // What a reply says of what was asked: of exactly one command, or of several cues as one that is of one command.
     fn reply_to(&self, replied: Replied) -> Option<Replied> {
-        if self.count > 1 {
-            return condensed(self.count, replied);
+        if self.letter.count > 1 {
+            return condensed(self.letter.count, replied);
         }
         answer_in(replied).map(|_| replied)
     }
@@ -178,8 +158,12 @@ impl Ask {
     // What a reply is to this ask: the status if that was asked, else what became of the command.
     fn answer_by(&self, replied: Replied) -> Option<Replied> {
         match replied {
-            Replied::Status(_) => if self.is_status { Some(replied) } else { None },
-            Replied::Reply { .. } => if self.is_status {
+            Replied::Status(_) => if self.letter.is_status {
+                Some(replied)
+            } else {
+                None
+            },
+            Replied::Reply { .. } => if self.letter.is_status {
                 None
             } else {
                 self.reply_to(replied)
@@ -189,7 +173,7 @@ impl Ask {
 
     // What the datagram says. If memory runs out nothing is heard, as of a datagram that is lost.
     fn read(&self, alloc: Global, datagram: &[u8]) -> Came {
-        let Ok(Some(replied)) = read_reply(alloc, &self.shown, datagram) else {
+        let Ok(Some(replied)) = read_reply(alloc, &self.letter.shown, datagram) else {
             return Came::Noise;
         };
         match self.answer_by(replied) {
@@ -212,7 +196,7 @@ impl Ask {
         for _ in 0..MAX_READ {
             let came = self.next(alloc);
             let is_nothing = came == Came::Nothing;
-            let heard = heard_of(self.number, came);
+            let heard = heard_of(self.letter.number, came);
             if heard.is_some() || is_nothing {
                 return heard;
             }
@@ -239,29 +223,40 @@ impl Asks {
         }
     }
 
-    // Closes what is asked anew: the last question for the status, or the older one of two presses.
-    fn make_room(&mut self, is_status: bool) {
+    /// Closes what this asks anew: the last question for the status, or the older one of two presses.
+    pub fn make_room(&mut self, order: DeskCommand) {
+        let is_status = is_status(order);
         let most = if is_status { 1 } else { MAX_PRESSES };
-        let same = self.open.iter().filter(|ask| ask.is_status == is_status);
+        let same = self
+            .open
+            .iter()
+            .filter(|ask| ask.letter.is_status == is_status);
         if same.count() < most {
             return;
         }
-        if let Some(place) = self.open.iter().position(|ask| ask.is_status == is_status) {
+        let oldest = self
+            .open
+            .iter()
+            .position(|ask| ask.letter.is_status == is_status);
+        if let Some(place) = oldest {
             self.close(place);
         }
     }
 
-    /// Sends a message, once, from a socket of its own; a cue is stood by with these others.
+    /// Sends a letter, once, from a socket of its own. There is to be room for it.
     pub fn send<R: Net + AllocGlobal>(
         &mut self,
         rt: &R,
         registry: &Registry,
-        send: Send,
-        others: &[CueNo],
+        letter: Letter,
     ) -> io::Result<()> {
-        self.make_room(is_status(send.order));
-        let ask = Ask::send(rt, registry, (self.port, self.name), send, others)?;
-        Ok(self.open.push(ask)?)
+        match open_and_post(rt, registry, (self.port, self.name), &letter) {
+            Ok(socket) => Ok(self.open.push(Ask { letter, socket })?),
+            Err(why) => {
+                drop(letter);
+                Err(why)
+            }
+        }
     }
 
     // The first answer that is there, with the place of its ask.

@@ -2,11 +2,11 @@
 //! it heard, and sends what the machine says. Nothing here waits but `wait`.
 use crate::asks::Asks;
 use crate::clocks::{Beat, SteadyClock, wall_time};
+use crate::letters::letter_of;
 use crate::reading::Store;
 use crate::relay::read_young;
 use cue_asker::AskerName;
 use cue_core::State;
-use cue_desk::together::companions_of;
 use cue_show_file::Group;
 use cue_station::heard::{Heard, Input, Send};
 use cue_station::memory::Choice;
@@ -133,13 +133,19 @@ impl<'a, R: Files<File = File> + Net + Clock + AllocGlobal> Desk<'a, R> {
         self.clock.now(self.rt)
     }
 
-    // Sends a message. If that fails, no answer to it comes.
+    // Sends a message, with the cues that stand by together with its own.
+    fn post(&mut self, send: Send) -> io::Result<()> {
+        self.asks.make_room(send.order);
+        let letter = letter_of(self.rt.alloc(), send, self.together)?;
+        self.asks.send(self.rt, self.poll.registry(), letter)
+    }
+
+    // Sends what the machine says. If that fails, no answer to it comes.
     fn send(&mut self, send: Option<Send>) {
         let Some(send) = send else {
             return;
         };
-        let others = companions_of(self.together, send.order);
-        match self.asks.send(self.rt, self.poll.registry(), send, others) {
+        match self.post(send) {
             Ok(()) => self.has_failed = false,
             Err(why) => {
                 if !self.has_failed {

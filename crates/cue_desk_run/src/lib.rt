@@ -38,6 +38,7 @@ mod addresses;
 mod asks;
 mod clocks;
 mod desk;
+mod letters;
 mod naming;
 mod orders;
 mod reading;

@@ -1,6 +1,7 @@
 //! One message as it was typed, without a view: it is sent once, and its answer waited for.
 use crate::asks::Asks;
 use crate::clocks::SteadyClock;
+use crate::letters::letter_with;
 use cue_asker::AskerName;
 use cue_desk::orders::DeskCommand;
 use cue_show::CueNo;
@@ -46,6 +47,7 @@ pub fn ask_once<R: Net + Clock + AllocGlobal>(
 ) -> io::Result<Option<Heard>> {
     let mut poll = Poll::new(rt)?;
     let mut asks = Asks::new(rt.alloc(), port, name);
-    asks.send(rt, poll.registry(), Send { ask: 0, order }, others)?;
+    let letter = letter_with(rt.alloc(), Send { ask: 0, order }, others)?;
+    asks.send(rt, poll.registry(), letter)?;
     answer_to(rt, &mut asks, &mut poll)
 }

@@ -195,10 +195,8 @@ impl Ask {
     fn answer(&self, alloc: Global) -> Option<Heard> {
         for _ in 0..MAX_READ {
             let came = self.next(alloc);
-            let is_nothing = came == Came::Nothing;
-            let heard = heard_of(self.letter.number, came);
-            if heard.is_some() || is_nothing {
-                return heard;
+            if came != Came::Noise {
+                return heard_of(self.letter.number, came);
             }
         }
         None

@@ -15,9 +15,9 @@ use cue_view::button::Button;
 use cue_view::view::{Alarm, View};
 use mio::{Events, Poll, Registry};
 use std::fs::{File, Files};
-use std::io;
 use std::net::Net;
 use std::time::{Clock, Duration};
+use std::{io, mem};
 
 /// How many milliseconds lie between two views at most.
 const TICK: u64 = 50;
@@ -81,20 +81,29 @@ fn first_view<R: Clock + AllocGlobal>(rt: &R, station: &mut Station, at: u64) ->
 impl<'a, R: Files<File = File> + Net + Clock + AllocGlobal> Desk<'a, R> {
     /// A desk that has heard nothing yet.
     pub fn new(rt: &'a R, sources: &Sources<'a>) -> io::Result<Desk<'a, R>> {
-        let alloc = rt.alloc();
-        let mut station = Station::new(alloc);
-        let Step { view, send } = first_view(rt, &mut station, 0)?;
+        let clock = SteadyClock::new(rt)?;
+        let poll = Poll::new(rt)?;
+        let events = Events::with_capacity(rt.alloc(), EVENTS)?;
+        let dir = String::from_str(rt.alloc(), sources.dir)?;
+        let mut station = Station::new(rt.alloc());
+        let Step { view, send } = match first_view(rt, &mut station, 0) {
+            Ok(step) => step,
+            Err(why) => {
+                drop(station);
+                return Err(why);
+            }
+        };
         let mut desk = Desk {
             rt,
-            clock: SteadyClock::new(rt)?,
+            clock,
             station,
             view,
-            poll: Poll::new(rt)?,
-            events: Events::with_capacity(alloc, EVENTS)?,
-            asks: Asks::new(alloc, sources.port, sources.name),
+            poll,
+            events,
+            asks: Asks::new(rt.alloc(), sources.port, sources.name),
             has_failed: false,
             fault: None,
-            store: Store::new(String::from_str(alloc, sources.dir)?),
+            store: Store::new(dir),
             relay: sources.relay,
             together: sources.together,
             ticks: Beat::of(TICK),
@@ -161,20 +170,28 @@ impl<'a, R: Files<File = File> + Net + Clock + AllocGlobal> Desk<'a, R> {
         self.fault.take()
     }
 
-    // Hears one thing, which is there at this moment, and answers whether it was heard: if memory ran out, nothing was.
-    fn hear(&mut self, heard: Heard) -> io::Result<bool> {
-        let input = Input {
-            at: self.now()?,
-            wall: wall_time(self.rt),
-            heard,
-        };
+    // Hears one thing at this moment, and answers whether it was heard: if memory ran out, nothing was.
+    fn hear_at(&mut self, at: u64, heard: Heard) -> bool {
+        let wall = wall_time(self.rt);
+        let input = Input { at, wall, heard };
         let Ok(step) = self.station.step(self.rt.alloc(), input) else {
-            return Ok(false);
+            return false;
         };
         let Step { view, send } = step;
-        self.view = view;
+        drop(mem::replace(&mut self.view, view));
         self.send(send);
-        Ok(true)
+        true
+    }
+
+    // The same of what is there now.
+    fn hear(&mut self, heard: Heard) -> io::Result<bool> {
+        match self.now() {
+            Ok(at) => Ok(self.hear_at(at, heard)),
+            Err(why) => {
+                drop(heard);
+                Err(why)
+            }
+        }
     }
 
     /// A button of the view with this number was pressed. Answers whether that was heard.
@@ -197,12 +214,16 @@ impl<'a, R: Files<File = File> + Net + Clock + AllocGlobal> Desk<'a, R> {
     // for the status could take the place of one whose answer is there. A copy that was not heard is read again.
     fn look_at_store(&mut self) -> io::Result<()> {
         let begun = self.now()?;
-        if self.looks.is_due(begun) {
-            let heard = self.store.look(self.rt, begun);
-            self.hear_answers()?;
-            if !self.hear(heard)? {
-                self.store.forget();
-            }
+        if !self.looks.is_due(begun) {
+            return Ok(());
+        }
+        let heard = self.store.look(self.rt, begun);
+        if let Err(why) = self.hear_answers() {
+            drop(heard);
+            return Err(why);
+        }
+        if !self.hear(heard)? {
+            self.store.forget();
         }
         Ok(())
     }

@@ -26,9 +26,11 @@ fn answer_to<R: Clock + AllocGlobal>(
     let clock = SteadyClock::new(rt)?;
     let mut events = Events::with_capacity(rt.alloc(), 1)?;
     for _ in 0..u64::MAX {
-        let heard = asks.hear(rt.alloc());
-        if heard.is_some() || clock.now(rt)? >= PATIENCE {
-            return Ok(heard);
+        if let Some(heard) = asks.hear(rt.alloc()) {
+            return Ok(Some(heard));
+        }
+        if clock.now(rt)? >= PATIENCE {
+            return Ok(None);
         }
         poll.poll(&mut events, Some(Duration::from_millis(PAUSE)))?;
     }

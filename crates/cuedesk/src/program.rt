@@ -10,6 +10,7 @@ mod buttons;
 mod locking;
 mod new;
 mod next;
+mod opening;
 mod orders;
 mod rehearsing;
 mod relaying;
@@ -29,7 +30,7 @@ use cue_files_run::{check_file, export};
 use cue_loading_run::{Loaded, load};
 use cue_operator::CueVerb;
 use cue_saying::{print, say};
-use cue_show_file::{Group, ShowFile, groups_of};
+use cue_show_file::ShowFile;
 use new::write_new;
 use next::press_word;
 use orders::carry_order;
@@ -37,7 +38,6 @@ use rehearsing::rehearse;
 use relaying::relay_devices;
 use reporting::report_evening;
 use sheet::print_sheet;
-use std::alloc::{AllocError, Global};
 use std::fs::{File, Files};
 use std::io::{Eprint, Write};
 use std::net::Net;
@@ -48,14 +48,6 @@ use web::serve_page;
 /// The port of the controller: the one that was said, else that of the show file, else 9100.
 pub fn port_of(said: Option<u16>, file: Option<&ShowFile>) -> u16 {
     controller_port(said, file.and_then(|file| file.port))
-}
-
-/// The cues of a show file that are stood by together; none without a file.
-pub fn groups_in(alloc: Global, file: Option<&ShowFile>) -> Result<Vec<Group>, AllocError> {
-    match file {
-        Some(file) => groups_of(alloc, file),
-        None => Ok(Vec::new(alloc)),
-    }
 }
 
 // The exit status of a command that is not done. If its output failed, that is said.

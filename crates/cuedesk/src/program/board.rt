@@ -5,8 +5,8 @@ ghost use Rattle.cuedesk.specs.Windows.{window_of};
 mod screen;
 
 use super::beside::{file_line, read_log, relay_line};
-use super::renewing::{Renewed, begin};
-use super::{groups_in, port_of};
+use super::opening::open_desk;
+use super::renewing::{Begun, Renewed, begin};
 use cue_board::{Names, board_lines};
 use cue_desk::ending::Ending;
 use cue_desk_line::Watched;
@@ -95,7 +95,7 @@ impl<'a, R: Files<File = File> + Net + Clock + AllocGlobal> Board<'a, R> {
         };
         let is_live = !self.desk.view().live.is_empty();
         if let Some(file) = renewed.look(self.rt, self.desk.now()?, is_live) {
-            self.file = Some(file);
+            drop(self.file.replace(file));
             renewed.begin_to_tell(self.desk.now()?);
         }
         if let Ok(told) = renewed.told(self.rt.alloc(), self.desk.now()?) {
@@ -251,6 +251,47 @@ fn show_on<R: Files<File = File> + Net + Clock + Eprint + AllocGlobal, W: Write>
     Ok(())
 }
 
+// The board of a desk that begins with this show file, where these cues stand by together.
+fn open_board<'a, R: Files<File = File> + Net + Clock + Eprint + AllocGlobal>(
+    rt: &'a R,
+    watched: &'a Watched,
+    rows: Option<u16>,
+    begun: Begun<'a>,
+    together: &'a [Group],
+) -> Result<Board<'a, R>, Ending> {
+    let sources = Sources {
+        name: None,
+        dir: watched.dir.as_str(),
+        port: begun.port,
+        relay: watched.relay.as_deref(),
+        together,
+    };
+    let desk = match open_desk(rt, &sources) {
+        Ok(desk) => desk,
+        Err(ending) => {
+            drop(begun);
+            return Err(ending);
+        }
+    };
+    let Begun {
+        file,
+        renewed,
+        port,
+    } = begun;
+    Ok(Board {
+        rt,
+        desk,
+        dir: sources.dir,
+        file,
+        renewed,
+        told: None,
+        port,
+        log: watched.log.as_deref(),
+        relay: sources.relay,
+        rows,
+    })
+}
+
 /// The command `board`: once as text, or again and again in a window of so many rows.
 pub fn show_board<R: Files<File = File> + Net + Clock + Eprint + AllocGlobal, W: Write>(
     rt: &R,
@@ -258,37 +299,13 @@ pub fn show_board<R: Files<File = File> + Net + Clock + Eprint + AllocGlobal, W:
     rows: Option<u16>,
     writer: &mut W,
 ) -> Result<(), Ending> {
-    let (file, renewed) = match begin(rt, watched.file.as_deref(), watched.port)? {
-        Some((file, renewed)) => (Some(file), Some(renewed)),
-        None => (None, None),
-    };
-    let together = groups_in(rt.alloc(), file.as_ref())?;
-    let sources = Sources {
-        name: None,
-        dir: watched.dir.as_str(),
-        port: port_of(watched.port, file.as_ref()),
-        relay: watched.relay.as_deref(),
-        together: &together,
-    };
-    let desk = match Desk::new(rt, &sources) {
-        Ok(desk) => desk,
-        Err(why) => return Err(failed(rt, &why)),
-    };
-    let mut board = Board {
-        rt,
-        desk,
-        dir: sources.dir,
-        file,
-        renewed,
-        told: None,
-        port: sources.port,
-        log: watched.log.as_deref(),
-        relay: sources.relay,
-        rows,
-    };
-    if rows.is_none() {
+    let (begun, together) = begin(rt, watched.file.as_deref(), watched.port)?;
+    let mut board = open_board(rt, watched, rows, begun, &together)?;
+    let shown = if rows.is_none() {
         print_once(&mut board, writer)
     } else {
         show_on(&mut board, writer)
-    }
+    };
+    drop(board);
+    shown
 }

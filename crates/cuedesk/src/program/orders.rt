@@ -132,10 +132,12 @@ fn place_before<R: Net + Clock + AllocGlobal>(
         return None;
     };
     let heard = ask_once(rt, DeskCommand::Status, &[], port, None);
-    match &heard {
+    let place = match &heard {
         Ok(Some(Heard::Replied(_, Replied::Status(status)))) => Some(status.place),
         _ => None,
-    }
+    };
+    drop(heard);
+    place
 }
 
 // How to go back from a move that was made.
@@ -170,6 +172,26 @@ fn tell_way_back<W: Write>(
     }
 }
 
+// Says in words what was heard of an order; these stand after the words that nobody replied. After a move from this
+// place it says how to go back.
+fn tell_heard<R: Eprint + AllocGlobal, W: Write>(
+    rt: &R,
+    heard: &Option<Heard>,
+    words: &str,
+    before: Option<Option<CueNo>>,
+    port: u16,
+    writer: &mut W,
+) -> Result<(), Ending> {
+    match heard {
+        Some(Heard::Replied(_, replied)) => {
+            tell(rt, *replied, writer)?;
+            tell_way_back(rt.alloc(), *replied, before, port, writer)
+        }
+        Some(Heard::Nobody(_)) => Err(say_alone(rt, port)),
+        _ => Err(say_silent(rt, words, port)),
+    }
+}
+
 /// Asks one thing of the controller, once, and says in words what it replied, within a second; a cue is stood by with
 /// these others. Who asks is said first, if there is a name. After a move it says how to go back.
 pub fn carry_order<R: Net + Clock + Eprint + AllocGlobal, W: Write>(
@@ -182,19 +204,15 @@ pub fn carry_order<R: Net + Clock + Eprint + AllocGlobal, W: Write>(
 ) -> Result<(), Ending> {
     let words = open_words(&order);
     let before = place_before(rt, order, port);
-    let heard = match ask_once(rt, order, others, port, name) {
-        Ok(heard) => heard,
+    match ask_once(rt, order, others, port, name) {
+        Ok(heard) => {
+            let told = tell_heard(rt, &heard, words, before, port, writer);
+            drop(heard);
+            told
+        }
         Err(why) => {
             say(rt, format_args!("no socket: {why}"));
-            return Err(Ending::Failed);
+            Err(Ending::Failed)
         }
-    };
-    match &heard {
-        Some(Heard::Replied(_, replied)) => {
-            tell(rt, *replied, writer)?;
-            tell_way_back(rt.alloc(), *replied, before, port, writer)
-        }
-        Some(Heard::Nobody(_)) => Err(say_alone(rt, port)),
-        _ => Err(say_silent(rt, words, port)),
     }
 }

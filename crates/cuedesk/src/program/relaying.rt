@@ -74,6 +74,34 @@ fn why(fault: Option<RelayFault>) -> &'static str {
     }
 }
 
+// Relays what comes from this source, until a signal ends it.
+fn relay_from<R: Files<File = File> + Net + Clock + Eprint + AllocGlobal, W: Write>(
+    rt: &R,
+    (sides, routes): (Sides, &[Route]),
+    source: &mut NetSource<'_, R>,
+    status: Option<&str>,
+    writer: &mut W,
+) -> Result<(), Ending> {
+    begun(rt, sides, routes.len(), writer)?;
+    let mut reporter = Reporter::new(rt, routes, status, writer)?;
+    let mut wire = NetWire::new(source.sockets());
+    let relay = Relay {
+        controller: sides.controller,
+        routes,
+    };
+    let ended = run(
+        rt.alloc(),
+        relay,
+        source,
+        &mut wire,
+        u64::MAX,
+        &mut reporter,
+    );
+    drop(reporter);
+    say(rt, why(ended.fault));
+    Err(Ending::Failed)
+}
+
 /// The command `relay`: until a signal ends it.
 pub fn relay_devices<R: Files<File = File> + Net + Clock + Eprint + AllocGlobal, W: Write>(
     rt: &R,
@@ -83,9 +111,11 @@ pub fn relay_devices<R: Files<File = File> + Net + Clock + Eprint + AllocGlobal,
     writer: &mut W,
 ) -> Result<(), Ending> {
     let file = read_file(rt, path)?;
-    let (stage, routes) = plan(rt, path, &file)?;
+    let planned = plan(rt, path, &file);
     let host = Ipv4Addr::LOCALHOST.to_bits();
     let port = port.or(file.port).unwrap_or(PORT);
+    drop(file);
+    let (stage, routes) = planned?;
     let controller = Address { host, port };
     let sides = Sides { controller, stage };
     let mut sockets = bind(rt, sides, &routes)?;
@@ -93,21 +123,7 @@ pub fn relay_devices<R: Files<File = File> + Net + Clock + Eprint + AllocGlobal,
         say(rt, "the sockets cannot be waited at");
         return Err(Ending::Failed);
     };
-    begun(rt, sides, routes.len(), writer)?;
-    let mut reporter = Reporter::new(rt, &routes, status, writer)?;
-    let mut wire = NetWire::new(source.sockets());
-    let relay = Relay {
-        controller,
-        routes: &routes,
-    };
-    let ended = run(
-        rt.alloc(),
-        relay,
-        &mut source,
-        &mut wire,
-        u64::MAX,
-        &mut reporter,
-    );
-    say(rt, why(ended.fault));
-    Err(Ending::Failed)
+    let relayed = relay_from(rt, (sides, &routes), &mut source, status, writer);
+    drop(source);
+    relayed
 }

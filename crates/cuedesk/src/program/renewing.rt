@@ -5,7 +5,9 @@ use cue_desk::stamps::Stamp;
 use cue_desk_run::{Beat, wall_time};
 use cue_file_news::{Due, Kept, Look, Looks, News, Reading, Trouble, later_of, told_words};
 use cue_files_run::read_file;
-use cue_show_file::{Draft, ShowFile, check, condensed, read, routes};
+use cue_show_file::{
+    Checked, Draft, Finding, Group, ShowFile, check, condensed, groups_of, read, routes,
+};
 use std::alloc::{AllocError, Global};
 use std::fs::{self, File, Files};
 use std::io::{self, Eprint, ErrorKind};
@@ -64,43 +66,81 @@ fn is_empty(file: &ShowFile) -> bool {
     file.devices.is_empty() && file.cues.is_empty()
 }
 
-// The show file that a text is; else the line of its first mistake, if it has one.
-fn file_in(alloc: Global, text: &str) -> Result<Result<ShowFile, Option<usize>>, AllocError> {
-    let Draft { file, findings, .. } = read(alloc, text)?;
-    let trial = check(alloc, &file)?;
-    let told = condensed(alloc, findings, trial.findings)?;
+// Whether a file in which this was found makes a show; else the line of its first mistake, if it has one.
+fn judged(
+    alloc: Global,
+    file: &ShowFile,
+    found: Vec<Finding>,
+) -> Result<Result<(), Option<usize>>, AllocError> {
+    let Checked { show, findings } = check(alloc, file)?;
+    let makes_show = show.is_some() && !is_empty(file);
+    drop(show);
+    let told = condensed(alloc, found, findings)?;
     Ok(match told.first() {
         Some(finding) => Err(finding.line),
-        None if trial.show.is_none() || is_empty(&file) => Err(None),
-        None => Ok(file),
+        None if makes_show => Ok(()),
+        None => Err(None),
     })
 }
 
+// The show file that a text is; else the line of its first mistake, if it has one.
+fn file_in(alloc: Global, text: &str) -> Result<Result<ShowFile, Option<usize>>, AllocError> {
+    let Draft {
+        file,
+        findings,
+        table,
+        ..
+    } = read(alloc, text)?;
+    drop(table);
+    match judged(alloc, &file, findings)? {
+        Ok(()) => Ok(Ok(file)),
+        Err(line) => Ok(Err(line)),
+    }
+}
+
+/// What a desk begins with: its show file, if it has one, and the port of the controller.
+#[derive(Drop)]
+pub struct Begun<'a> {
+    pub file: Option<ShowFile>,
+    pub renewed: Option<Renewed<'a>>,
+    pub port: u16,
+}
+
 /// Reads the show file of a desk that begins, if it has one; else each mistake is on standard error. `said` is the port
-/// of the controller that the command line or the environment says.
+/// of the controller that the command line or the environment says. Beside it stand the cues that are stood by together.
 pub fn begin<'a, R: Files<File = File> + Eprint + AllocGlobal>(
     rt: &R,
     path: Option<&'a str>,
     said: Option<u16>,
-) -> Result<Option<(ShowFile, Renewed<'a>)>, Ending> {
+) -> Result<(Begun<'a>, Vec<Group>), Ending> {
     let Some(path) = path else {
-        return Ok(None);
+        let begun = Begun {
+            file: None,
+            renewed: None,
+            port: port_of(said, None),
+        };
+        return Ok((begun, Vec::new(rt.alloc())));
     };
     // The text first: what is written between the two readings is found to be new then.
     let text = text_at(rt, path).unwrap_or(String::new(rt.alloc()));
     let file = read_file(rt, path)?;
+    let together = groups_of(rt.alloc(), &file)?;
     let kept = kept_of(rt.alloc(), &file, said)?;
-    let renewed = Renewed {
-        path,
-        said,
-        looks: Looks::new(),
-        beats: Beat::of(LOOK),
-        text,
-        news: News::Old,
-        trouble: None,
-        kept,
+    let begun = Begun {
+        port: kept.port,
+        file: Some(file),
+        renewed: Some(Renewed {
+            path,
+            said,
+            looks: Looks::new(),
+            beats: Beat::of(LOOK),
+            text,
+            news: News::Old,
+            trouble: None,
+            kept,
+        }),
     };
-    Ok(Some((file, renewed)))
+    Ok((begun, together))
 }
 
 impl Renewed<'_> {

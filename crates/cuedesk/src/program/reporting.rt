@@ -5,23 +5,22 @@ use cue_files_run::read_file;
 use cue_report::{Evening, Names, html, text};
 use cue_saying::say;
 use cue_show_file::ShowFile;
-use std::alloc::{AllocError, Global};
+use std::alloc::AllocError;
 use std::fs::{File, Files};
 use std::io::{self, Eprint, Read, Write};
 
 /// How many bytes of the log are read at once.
 const PIECE: usize = 65_536;
 
-// The names of a show file.
-fn names_of(alloc: Global, file: &ShowFile) -> Result<Names<'_>, AllocError> {
-    let mut names = Names::new(alloc);
+// Takes the names of a show file.
+fn add_names<'a>(names: &mut Names<'a>, file: &'a ShowFile) -> Result<(), AllocError> {
     for device in file.devices.iter() {
         names.add_device(&device.number, device.name.as_deref().unwrap_or(""))?;
     }
     for cue in file.cues.iter() {
         names.add_cue(&cue.number, cue.name.as_deref().unwrap_or(""))?;
     }
-    Ok(names)
+    Ok(())
 }
 
 // Why a log was not read.
@@ -31,10 +30,13 @@ fn unread<R: Eprint>(rt: &R, path: &str, why: &io::Error) -> Ending {
 }
 
 // Hears a log to its end.
-fn hear<R: Files<File = File> + AllocGlobal>(rt: &R, path: &str) -> io::Result<Evening> {
+fn hear<R: Files<File = File> + AllocGlobal>(
+    rt: &R,
+    path: &str,
+    evening: &mut Evening,
+) -> io::Result<()> {
     let mut file = File::open(rt, path)?;
     let mut piece = vec![in rt.alloc(); 0u8; PIECE]?;
-    let mut evening = Evening::new(rt.alloc());
     for _ in 0..u64::MAX {
         let count = file.read(&mut piece)?;
         if count == 0 {
@@ -43,7 +45,7 @@ fn hear<R: Files<File = File> + AllocGlobal>(rt: &R, path: &str) -> io::Result<E
         evening.hear(&piece[..count])?;
     }
     evening.finish()?;
-    Ok(evening)
+    Ok(())
 }
 
 // Puts bytes out.
@@ -94,6 +96,25 @@ fn put_page<R: AllocGlobal, W: Write>(
     flush(writer)
 }
 
+// The report of an evening that was heard, with the names of a show file.
+fn put_report<R: AllocGlobal, W: Write>(
+    rt: &R,
+    html: bool,
+    evening: &Evening,
+    file: &ShowFile,
+    writer: &mut W,
+) -> Result<(), Ending> {
+    let mut names = Names::new(rt.alloc());
+    add_names(&mut names, file)?;
+    let put = if html {
+        put_page(rt, evening, &names, writer)
+    } else {
+        put_text(rt, evening, &names, writer)
+    };
+    drop(names);
+    put
+}
+
 /// The command `report`. A line that is none of the log is counted, and no mistake; a log that cannot be read ends it
 /// with status 3, a show file with mistakes with status 1.
 pub fn report_evening<R: Files<File = File> + Eprint + AllocGlobal, W: Write>(
@@ -102,14 +123,13 @@ pub fn report_evening<R: Files<File = File> + Eprint + AllocGlobal, W: Write>(
     writer: &mut W,
 ) -> Result<(), Ending> {
     let file = read_file(rt, report.file.as_str())?;
-    let evening = match hear(rt, report.log.as_str()) {
-        Ok(evening) => evening,
-        Err(why) => return Err(unread(rt, report.log.as_str(), &why)),
+    let log = report.log.as_str();
+    let mut evening = Evening::new(rt.alloc());
+    let reported = match hear(rt, log, &mut evening) {
+        Ok(()) => put_report(rt, report.html, &evening, &file, writer),
+        Err(why) => Err(unread(rt, log, &why)),
     };
-    let names = names_of(rt.alloc(), &file)?;
-    if report.html {
-        put_page(rt, &evening, &names, writer)
-    } else {
-        put_text(rt, &evening, &names, writer)
-    }
+    drop(evening);
+    drop(file);
+    reported
 }

@@ -1,12 +1,13 @@
 //! The command `web`: the board with buttons, served to a browser on this machine.
 use super::locking::lock_word;
-use super::renewing::{Renewed, begin};
-use super::{groups_in, port_of};
+use super::opening::open_desk;
+use super::renewing::{Begun, Renewed, begin};
 use cue_desk::ending::Ending;
 use cue_desk_line::{PageUse, Web};
 use cue_desk_run::{Desk, Sources};
 use cue_request::identity::{PageIdentity, Purpose};
 use cue_saying::{failed, print, say, say_fault};
+use cue_show_file::Group;
 use cue_web::{Beside, Connections, Pages};
 use hex::encode;
 use std::alloc::Global;
@@ -26,7 +27,6 @@ const TOKEN_BYTES: usize = 16;
 #[derive(Drop)]
 struct Server<'a, R> {
     rt: &'a R,
-    connections: Connections,
     desk: Desk<'a, R>,
     pages: Pages<'a>,
     renewed: Option<Renewed<'a>>,
@@ -60,21 +60,20 @@ impl<R: Files<File = File> + Net + Clock + Eprint + AllocGlobal> Server<'_, R> {
     }
 
     // One round: who presses is heard first.
-    fn round(&mut self) -> io::Result<()> {
+    fn round(&mut self, connections: &mut Connections) -> io::Result<()> {
         let alloc = self.rt.alloc();
         let now = self.desk.now()?;
-        let is_waited_for = self.connections.admit(alloc, self.desk.registry(), now);
-        self.connections
-            .serve(alloc, &mut self.desk, &mut self.pages, now);
+        let is_waited_for = connections.admit(alloc, self.desk.registry(), now);
+        connections.serve(alloc, &mut self.desk, &mut self.pages, now);
         self.desk.round()?;
         self.renew()?;
         self.desk.wait(if is_waited_for { 0 } else { PAUSE })
     }
 
     // Serves until a signal ends it.
-    fn serve(&mut self) -> Result<(), Ending> {
+    fn serve(&mut self, connections: &mut Connections) -> Result<(), Ending> {
         for _ in 0..u64::MAX {
-            if let Err(why) = self.round() {
+            if let Err(why) = self.round(connections) {
                 return Err(failed(self.rt, &why));
             }
             say_fault(self.rt, self.desk.take_fault());
@@ -112,14 +111,53 @@ fn purpose_of<'a>(page_use: &'a PageUse, word: Option<&'a str>) -> Purpose<'a> {
     }
 }
 
-// The desk of these sources; else why there is none is said.
-fn open_desk<'a, R: Files<File = File> + Net + Clock + Eprint + AllocGlobal>(
+// Listens at this port, says so, and serves.
+fn serve_at<R: Files<File = File> + Net + Clock + Eprint + AllocGlobal, W: Write>(
+    server: &mut Server<'_, R>,
+    port: u16,
+    writer: &mut W,
+) -> Result<(), Ending> {
+    let mut connections = listen(server.rt, &server.desk, port)?;
+    say_where(server.rt.alloc(), port, writer)?;
+    let served = server.serve(&mut connections);
+    drop(connections);
+    served
+}
+
+// The server of a page of this identity, over a desk that begins with this show file.
+fn open_server<'a, R: Files<File = File> + Net + Clock + Eprint + AllocGlobal>(
     rt: &'a R,
-    sources: &Sources<'a>,
-) -> Result<Desk<'a, R>, Ending> {
-    match Desk::new(rt, sources) {
-        Ok(desk) => Ok(desk),
-        Err(why) => Err(failed(rt, &why)),
+    web: &'a Web,
+    (identity, token, run): (PageIdentity<'a>, &str, String),
+    begun: Begun<'a>,
+    together: &'a [Group],
+) -> Result<Server<'a, R>, Ending> {
+    let sources = Sources {
+        dir: web.dir.as_str(),
+        port: begun.port,
+        relay: web.relay.as_deref(),
+        name: web.name,
+        together,
+    };
+    let Begun {
+        file,
+        renewed,
+        port,
+    } = begun;
+    let beside = Beside { file, port, run };
+    let pages = Pages::new(rt.alloc(), identity, token, beside)?;
+    match open_desk(rt, &sources) {
+        Ok(desk) => Ok(Server {
+            rt,
+            desk,
+            pages,
+            renewed,
+        }),
+        Err(ending) => {
+            drop(pages);
+            drop(renewed);
+            Err(ending)
+        }
     }
 }
 
@@ -132,38 +170,15 @@ pub fn serve_page<
 >(rt: &'a R, web: &'a Web, writer: &mut W) -> Result<(), Ending> {
     let (token, run) = (draw_token(rt)?, draw_token(rt)?);
     let word = lock_word(rt, &web.page_use)?;
-    let (file, renewed) = match begin(rt, web.file.as_deref(), web.port)? {
-        Some((file, renewed)) => (Some(file), Some(renewed)),
-        None => (None, None),
-    };
-    let together = groups_in(rt.alloc(), file.as_ref())?;
-    let sources = Sources {
-        dir: web.dir.as_str(),
-        port: port_of(web.port, file.as_ref()),
-        relay: web.relay.as_deref(),
-        name: web.name,
-        together: &together,
-    };
+    let (begun, together) = begin(rt, web.file.as_deref(), web.port)?;
     let identity = PageIdentity {
         port: web.http,
         token: token.as_bytes(),
         purpose: purpose_of(&web.page_use, word.as_deref()),
     };
-    let desk = open_desk(rt, &sources)?;
-    let beside = Beside {
-        file,
-        port: sources.port,
-        run,
-    };
-    let pages = Pages::new(rt.alloc(), identity, token.as_str(), beside)?;
-    let connections = listen(rt, &desk, web.http)?;
-    say_where(rt.alloc(), web.http, writer)?;
-    let mut server = Server {
-        rt,
-        connections,
-        desk,
-        pages,
-        renewed,
-    };
-    server.serve()
+    let page = (identity, token.as_str(), run);
+    let mut server = open_server(rt, web, page, begun, &together)?;
+    let served = serve_at(&mut server, web.http, writer);
+    drop(server);
+    served
 }

@@ -107,7 +107,7 @@ pub struct Begun<'a> {
 }
 
 /// Reads the show file of a desk that begins, if it has one; else each mistake is on standard error. `said` is the port
-/// of the controller that the command line or the environment says. Beside it stand the cues that are stood by together.
+/// of the controller that the command line or the environment says. Beside it are the cues that are stood by together.
 pub fn begin<'a, R: Files<File = File> + Eprint + AllocGlobal>(
     rt: &R,
     path: Option<&'a str>,

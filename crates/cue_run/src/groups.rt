@@ -84,10 +84,10 @@ fn run_rounds<D: Disk, S: Source, W: Wire, V: Watch<W>>(
 /// Withdraws what was offered and not committed, and hands out what is owed. Then it takes at most so many inputs, in
 /// groups: an input, and the datagrams that are there already, up to `most` of them and the room of the live area. A
 /// group is committed with the writes and syncs of one input; then what each owes is handed out in order, and after
-/// each `watch` looks. A tick is a group of its own, and so is a datagram that comes first and changes nothing: it would
-/// wait for the writes of others. The run ends at its turns, if the source ends, or at the first
-/// fault; what was offered before the fault is committed and handed out first. Of a group whose commit is refused
-/// nothing is handed out.
+/// each `watch` looks. A tick is a group of its own, and so is a datagram that comes first and changes nothing: it
+/// would wait for the writes of others. The run ends at its turns, if the source ends, or at the first fault; what was
+/// offered before the fault is committed and handed out first. Of a group whose commit is refused nothing is handed
+/// out.
 pub fn run_grouped<D: Disk, S: Source, W: Wire, V: Watch<W>>(
     alloc: Global,
     engine: &mut Engine<D>,

@@ -1,9 +1,10 @@
 //! The command line, read over `clap`.
 ghost use Rattle.std.specs.Prelude.{IfOk, codes};
 ghost use Rattle.cue_operator.specs.Methods.{cue_verb_text};
-ghost use Rattle.cue_desk.specs.Orders.{spelling_of};
+ghost use Rattle.cue_desk.specs.Orders.{spelling_of, word_of};
 ghost use Rattle.cue_desk_line.specs.Orders.{IsAskedBy};
 
+mod arguments;
 pub mod buttons;
 mod commands;
 pub mod pressing;
@@ -18,7 +19,6 @@ use clap::ArgMatches;
 use commands::cuedesk;
 use cue_desk::line::{LineFault, fault_of, unfit};
 use cue_desk::orders::{CommandWord, DeskCommand, word_in};
-use cue_desk::ports::said_port;
 use cue_loading::Manner;
 use cue_operator::CueVerb;
 use cue_show::{CueNo, DeviceNo};
@@ -35,12 +35,33 @@ fn lacking(alloc: Global, id: &str) -> LineFault {
     unfit(alloc, id, "is missing")
 }
 
+// What a word was read as; if it is nothing, `wanted` says what to write.
+fn or_unfit<T>(alloc: Global, read: Option<T>, word: &str, wanted: &str) -> Result<T, LineFault> {
+    match read {
+        Some(value) => Ok(value),
+        None => Err(unfit(alloc, word, wanted)),
+    }
+}
+
+// A text of its own, if there is one.
+fn owned(alloc: Global, text: Option<&str>) -> Result<Option<String>, LineFault> {
+    match text {
+        Some(text) => Ok(Some(String::from_str(alloc, text)?)),
+        None => Ok(None),
+    }
+}
+
 // The word that stands there.
 fn text_in(alloc: Global, found: &ArgMatches<'_>, id: &str) -> Result<String, LineFault> {
     match found.get_str(id) {
         Some(text) => Ok(String::from_str(alloc, text)?),
         None => Err(lacking(alloc, id)),
     }
+}
+
+// The word that stands there, if one does.
+fn option_in(alloc: Global, found: &ArgMatches<'_>, id: &str) -> Result<Option<String>, LineFault> {
+    owned(alloc, found.get_str(id))
 }
 
 // A word that is no port.
@@ -57,14 +78,19 @@ fn port_in(alloc: Global, found: &ArgMatches<'_>) -> Result<Option<u16>, LineFau
     }
 }
 
+// The cue that a word names.
+fn cue_of(alloc: Global, text: &str) -> Result<CueNo, LineFault> {
+    let wanted =
+        "is no cue number: write digits with single points, as 12.5, 16 characters at most";
+    or_unfit(alloc, CueNo::read(text.as_bytes()), text, wanted)
+}
+
 // The cue that stands there.
 fn cue_in(alloc: Global, found: &ArgMatches<'_>) -> Result<CueNo, LineFault> {
-    let text = found.get_str("CUE").ok_or(lacking(alloc, "CUE"))?;
-    CueNo::read(text.as_bytes()).ok_or(unfit(
-        alloc,
-        text,
-        "is no cue number: write digits with single points, as 12.5, 16 characters at most",
-    ))
+    match found.get_str("CUE") {
+        Some(text) => cue_of(alloc, text),
+        None => Err(lacking(alloc, "CUE")),
+    }
 }
 
 // The device with the number that a word is.
@@ -77,19 +103,37 @@ fn device_of(text: &str) -> Option<DeviceNo> {
 
 // The device that stands there.
 fn device_in(alloc: Global, found: &ArgMatches<'_>) -> Result<DeviceNo, LineFault> {
-    let text = found.get_str("DEVICE").ok_or(lacking(alloc, "DEVICE"))?;
-    device_of(text).ok_or(unfit(alloc, text, "is no device: write its number, 0 to 111"))
+    match found.get_str("DEVICE") {
+        Some(text) => or_unfit(
+            alloc,
+            device_of(text),
+            text,
+            "is no device: write its number, 0 to 111",
+        ),
+        None => Err(lacking(alloc, "DEVICE")),
+    }
+}
+
+// The command that asks this, with the port and the name that stand there.
+fn ask_in(alloc: Global, order: DeskCommand, found: &ArgMatches<'_>) -> Result<Line, LineFault>
+    ensures { IfOk result (IsAskedBy (word_of order)) }
+{
+    Ok(Line::Ask {
+        order,
+        port: port_in(alloc, found)?,
+        name: asker_in(alloc, found)?,
+    })
 }
 
 // What is asked of a cue.
 fn of_cue_in(alloc: Global, verb: CueVerb, found: &ArgMatches<'_>) -> Result<Line, LineFault>
     ensures { IfOk result (IsAskedBy (cue_verb_text verb)) }
 {
-    Ok(Line::Ask {
-        order: DeskCommand::OfCue(verb, cue_in(alloc, found)?),
-        port: port_in(alloc, found)?,
-        name: asker_in(alloc, found)?,
-    })
+    ask_in(
+        alloc,
+        DeskCommand::OfCue(verb, cue_in(alloc, found)?),
+        found,
+    )
 }
 
 // What is removed.
@@ -98,11 +142,7 @@ fn remove_in(alloc: Global, found: &ArgMatches<'_>) -> Result<Line, LineFault>
 {
     match found.subcommand() {
         Some((name, of)) if name == "cue" => of_cue_in(alloc, CueVerb::Remove, of),
-        Some((_, of)) => Ok(Line::Ask {
-            order: DeskCommand::RemoveDevice(device_in(alloc, of)?),
-            port: port_in(alloc, of)?,
-            name: asker_in(alloc, of)?,
-        }),
+        Some((_, of)) => ask_in(alloc, DeskCommand::RemoveDevice(device_in(alloc, of)?), of),
         None => Err(unfit(
             alloc,
             "remove",
@@ -119,7 +159,7 @@ fn check_in(alloc: Global, found: &ArgMatches<'_>) -> Result<Line, LineFault> {
 }
 
 // What becomes of what is in the store already.
-fn manner_in(found: &ArgMatches<'_>) -> Manner {
+fn manner_of(found: &ArgMatches<'_>) -> Manner {
     if found.get_flag("exact") {
         Manner::IsExact
     } else if found.get_flag("replace") {
@@ -129,31 +169,26 @@ fn manner_in(found: &ArgMatches<'_>) -> Manner {
     }
 }
 
-// The folder of the store of a `load`. If something is to be replaced, it is wanted.
-fn store_in(
-    alloc: Global,
-    found: &ArgMatches<'_>,
-    manner: Manner,
-) -> Result<Option<String>, LineFault> {
-    let dir = option_in(alloc, found, "DIR")?;
-    if dir.is_none() && manner != Manner::Adds {
-        return Err(unfit(
-            alloc,
-            "load",
-            "wants the folder of the store, to see what it has: load evening.toml show --replace",
-        ));
+// The same. If something is to be replaced, the folder of the store is wanted.
+fn manner_in(alloc: Global, found: &ArgMatches<'_>) -> Result<Manner, LineFault> {
+    let manner = manner_of(found);
+    if manner == Manner::Adds || found.get_str("DIR").is_some() {
+        return Ok(manner);
     }
-    Ok(dir)
+    Err(unfit(
+        alloc,
+        "load",
+        "wants the folder of the store, to see what it has: load evening.toml show --replace",
+    ))
 }
 
 // The command `load`, with what stands after it.
 fn load_in(alloc: Global, found: &ArgMatches<'_>) -> Result<Line, LineFault> {
-    let manner = manner_in(found);
     Ok(Line::Load {
-        file: text_in(alloc, found, "FILE")?,
-        dir: store_in(alloc, found, manner)?,
+        manner: manner_in(alloc, found)?,
         port: port_in(alloc, found)?,
-        manner,
+        file: text_in(alloc, found, "FILE")?,
+        dir: option_in(alloc, found, "DIR")?,
     })
 }
 
@@ -178,27 +213,19 @@ fn file_line_in(
         "sheet" => Some(sheet_in(alloc, found)),
         "board" => Some(board_in(alloc, found)),
         "web" => Some(web_in(alloc, found).map(Line::Web)),
-        "buttons" => Some(buttons_in(alloc, found).map(Line::Buttons)),
-        "rehearse" => Some(rehearsal_in(alloc, found).map(Line::Rehearse)),
+        "buttons" => Some(buttons_in(alloc, found)),
+        "rehearse" => Some(rehearsal_in(alloc, found)),
         "relay" => Some(relay_in(alloc, found)),
-        "report" => Some(report_in(alloc, found).map(Line::Report)),
+        "report" => Some(report_in(alloc, found)),
         _ => None,
-    }
-}
-
-// The word after an option, if it is given.
-fn option_in(alloc: Global, found: &ArgMatches<'_>, id: &str) -> Result<Option<String>, LineFault> {
-    match found.get_str(id) {
-        Some(text) => Ok(Some(String::from_str(alloc, text)?)),
-        None => Ok(None),
     }
 }
 
 // The command `relay`, with what stands after it.
 fn relay_in(alloc: Global, found: &ArgMatches<'_>) -> Result<Line, LineFault> {
     Ok(Line::Relay {
-        file: text_in(alloc, found, "FILE")?,
         port: port_in(alloc, found)?,
+        file: text_in(alloc, found, "FILE")?,
         status: option_in(alloc, found, "status")?,
     })
 }
@@ -206,11 +233,11 @@ fn relay_in(alloc: Global, found: &ArgMatches<'_>) -> Result<Line, LineFault> {
 // What a board is made of.
 fn watched_in(alloc: Global, found: &ArgMatches<'_>) -> Result<Watched, LineFault> {
     Ok(Watched {
+        port: port_in(alloc, found)?,
         dir: text_in(alloc, found, "DIR")?,
         file: option_in(alloc, found, "FILE")?,
         log: option_in(alloc, found, "log")?,
         relay: option_in(alloc, found, "relay")?,
-        port: port_in(alloc, found)?,
     })
 }
 
@@ -229,17 +256,13 @@ fn asked_in(alloc: Global, word: CommandWord, found: &ArgMatches<'_>) -> Result<
 {
     match word {
         CommandWord::OfCue(verb) => of_cue_in(alloc, verb, found),
-        CommandWord::Release => Ok(Line::Ask {
-            order: DeskCommand::Release(device_in(alloc, found)?),
-            port: port_in(alloc, found)?,
-            name: asker_in(alloc, found)?,
-        }),
+        CommandWord::Release => ask_in(
+            alloc,
+            DeskCommand::Release(device_in(alloc, found)?),
+            found,
+        ),
         CommandWord::Remove => remove_in(alloc, found),
-        CommandWord::Status => Ok(Line::Ask {
-            order: DeskCommand::Status,
-            port: port_in(alloc, found)?,
-            name: asker_in(alloc, found)?,
-        }),
+        CommandWord::Status => ask_in(alloc, DeskCommand::Status, found),
     }
 }
 
@@ -266,7 +289,7 @@ fn pressed_or_asked(
     }
 }
 
-// The command that was matched.
+// The command of this name.
 fn line_in(
     alloc: Global,
     name: &str,
@@ -279,6 +302,18 @@ fn line_in(
     }
 }
 
+// The command that was matched, if one was.
+fn line_of(
+    alloc: Global,
+    matches: &ArgMatches<'_>,
+    environment: &Environment<'_>,
+) -> Result<Line, LineFault> {
+    match matches.subcommand() {
+        Some((name, found)) => line_in(alloc, name, found, environment),
+        None => Err(unfit(alloc, "cuedesk", "wants a command after it")),
+    }
+}
+
 // The command that `clap` finds.
 fn matched(
     alloc: Global,
@@ -287,10 +322,7 @@ fn matched(
 ) -> Result<Line, LineFault> {
     let command = cuedesk(alloc)?;
     match command.try_get_matches_from(words) {
-        Ok(matches) => match matches.subcommand() {
-            Some((name, found)) => line_in(alloc, name, found, environment),
-            None => Err(unfit(alloc, "cuedesk", "wants a command after it")),
-        },
+        Ok(matches) => line_of(alloc, &matches, environment),
         Err(error) => Err(fault_of(alloc, &error)),
     }
 }
@@ -307,6 +339,25 @@ fn port_of(alloc: Global, text: &str) -> Result<u16, LineFault> {
     }
 }
 
+// What the words leave out, and the environment says.
+fn complete(
+    alloc: Global,
+    line: &mut Line,
+    environment: &Environment<'_>,
+) -> Result<(), LineFault> {
+    if let (Some(port), Some(text)) = (line.port(), environment.port) {
+        if port.is_none() {
+            *port = Some(port_of(alloc, text)?);
+        }
+    }
+    if let (Some(name), Some(text)) = (line.name(), environment.name) {
+        if name.is_none() {
+            *name = Some(asker_said(alloc, text)?);
+        }
+    }
+    Ok(())
+}
+
 /// Reads a command line, the program's name first, as `clap` matches it. If a command speaks to the controller and
 /// its words name no port, the port is the one that CUEDESK_PORT says, if that is set; and if they do not name
 /// who asks, that is who CUEDESK_AS says. CUEDESK_STORE says the folder of the store, and CUEDESK_FILE the show
@@ -317,15 +368,6 @@ pub fn line(
     environment: &Environment<'_>,
 ) -> Result<Line, LineFault> {
     let mut line = matched(alloc, words, environment)?;
-    if let (Some(port), Some(text)) = (line.port(), environment.port) {
-        if port.is_none() {
-            *port = said_port(*port, Some(port_of(alloc, text)?));
-        }
-    }
-    if let (Some(name), Some(text)) = (line.name(), environment.name) {
-        if name.is_none() {
-            *name = Some(asker_said(alloc, text)?);
-        }
-    }
+    complete(alloc, &mut line, environment)?;
     Ok(line)
 }

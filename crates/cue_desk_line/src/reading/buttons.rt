@@ -1,13 +1,14 @@
 //! The command `buttons`, and what stands after it.
-use super::commands::{names_file, option, over_dir, port_or_file};
-use super::reporting::{asker, asker_in};
-use super::{option_in, port_in, text_in};
-use clap::{Arg, ArgAction, ArgMatches, Command, value_parser};
+use super::arguments::{ASKER, Argument, Bits, DIR, Declared, NAMES, PORT_OR_FILE};
+use super::reporting::asker_in;
+use super::words::Line;
+use super::{option_in, or_unfit, port_in, text_in};
+use clap::ArgMatches;
 use cue_asker::AskerName;
 use cue_desk::line::{LineFault, unfit};
 use cue_presses::{Address, Key, Keys};
 use cue_show::CueNo;
-use std::alloc::{AllocError, Global};
+use std::alloc::Global;
 
 /// A real desk: the device that is heard, and what its keys and commands mean.
 #[derive(Drop)]
@@ -42,53 +43,40 @@ const MACHINERY: u8 = 0x20;
 /// The highest number of a device, and of a format: 127 is all of them.
 const MAX_ID: u8 = 126;
 
-// The device that gives MIDI bytes.
-fn midi<'a>(alloc: Global) -> Arg<'a> {
-    Arg::new(alloc, "midi")
-        .help("The device that gives MIDI bytes, as /dev/snd/midiC1D0, or a FIFO")
-        .long("midi")
-        .required(true)
-        .action(ArgAction::Set)
-}
-
-// The number of this desk as a device of show control.
-fn id<'a>(alloc: Global) -> Arg<'a> {
-    let help = "Its device to MIDI Show Control, 0 to 126; 0 where nothing is said";
-    option(alloc, "id", help).value_parser(value_parser!(u16))
-}
-
-// The command `buttons`, without its options.
-fn buttons_of_files<'a>(alloc: Global) -> Result<Command<'a>, AllocError> {
-    let about =
-        "Hear a GO button over MIDI:  cuedesk buttons show evening.toml --midi /dev/snd/midiC1D0";
-    over_dir(alloc, "buttons", about)?
-        .arg(names_file(alloc))?
-        .arg(midi(alloc))
-}
-
-// The command `buttons`, with its keys.
-fn buttons_with_keys<'a>(alloc: Global) -> Result<Command<'a>, AllocError> {
-    let standby = "The key of STANDBY: a note, 0 to 127, or a controller, as cc:64; else it is 60";
-    let go = "The key of GO; else it is 62";
-    let cancel = "The key of CANCEL; else it is 64";
-    buttons_of_files(alloc)?
-        .arg(option(alloc, "standby", standby))?
-        .arg(option(alloc, "go", go))?
-        .arg(option(alloc, "cancel", cancel))
-}
-
 /// The command `buttons`.
-pub fn buttons_command<'a>(alloc: Global) -> Result<Command<'a>, AllocError> {
-    let format =
-        "Its format to MIDI Show Control, as two hexadecimal digits: 01 is lights; else it is 20, machinery";
-    let list = "The list of cues that a command may name; else one that names a list is refused";
-    buttons_with_keys(alloc)?
-        .arg(id(alloc))?
-        .arg(option(alloc, "format", format))?
-        .arg(option(alloc, "list", list))?
-        .arg(port_or_file(alloc))?
-        .arg(asker(alloc))
-}
+pub(super) const BUTTONS_COMMAND: Declared = Declared {
+    name: "buttons",
+    about: "Hear a GO button over MIDI:  cuedesk buttons show evening.toml --midi /dev/snd/midiC1D0",
+    arguments: &[
+        DIR,
+        NAMES,
+        Argument::RequiredOption(
+            "midi",
+            "The device that gives MIDI bytes, as /dev/snd/midiC1D0, or a FIFO",
+        ),
+        Argument::Option(
+            "standby",
+            "The key of STANDBY: a note, 0 to 127, or a controller, as cc:64; else it is 60",
+        ),
+        Argument::Option("go", "The key of GO; else it is 62"),
+        Argument::Option("cancel", "The key of CANCEL; else it is 64"),
+        Argument::Number(
+            Bits::Of16,
+            "id",
+            "Its device to MIDI Show Control, 0 to 126; 0 where nothing is said",
+        ),
+        Argument::Option(
+            "format",
+            "Its format to MIDI Show Control, as two hexadecimal digits: 01 is lights; else it is 20, machinery",
+        ),
+        Argument::Option(
+            "list",
+            "The list of cues that a command may name; else one that names a list is refused",
+        ),
+        PORT_OR_FILE,
+        ASKER,
+    ],
+};
 
 // The number of a note or of a controller that a word is.
 fn key_number(text: &str) -> Option<u8> {
@@ -116,11 +104,8 @@ fn key_in(
     let Some(text) = found.get_str(name) else {
         return Ok(else_it_is);
     };
-    key_of(text).ok_or(unfit(
-        alloc,
-        text,
-        "is no key: write the number of a note, 0 to 127, or a controller, as cc:64",
-    ))
+    let wanted = "is no key: write the number of a note, 0 to 127, or a controller, as cc:64";
+    or_unfit(alloc, key_of(text), text, wanted)
 }
 
 // The keys. No two may be the same.
@@ -161,11 +146,8 @@ fn format_in(alloc: Global, found: &ArgMatches<'_>) -> Result<u8, LineFault> {
     let Some(text) = found.get_str("format") else {
         return Ok(MACHINERY);
     };
-    format_of(text).ok_or(unfit(
-        alloc,
-        text,
-        "is no format: write two hexadecimal digits, 00 to 7e, as 01 for lights",
-    ))
+    let wanted = "is no format: write two hexadecimal digits, 00 to 7e, as 01 for lights";
+    or_unfit(alloc, format_of(text), text, wanted)
 }
 
 // The list of cues.
@@ -173,29 +155,29 @@ fn list_in(alloc: Global, found: &ArgMatches<'_>) -> Result<Option<CueNo>, LineF
     let Some(text) = found.get_str("list") else {
         return Ok(None);
     };
-    match CueNo::read(text.as_bytes()) {
-        Some(list) => Ok(Some(list)),
-        None => Err(unfit(
-            alloc,
-            text,
-            "is no list: write digits with single points, as 1",
-        )),
-    }
+    let wanted = "is no list: write digits with single points, as 1";
+    let list = or_unfit(alloc, CueNo::read(text.as_bytes()), text, wanted)?;
+    Ok(Some(list))
+}
+
+// What the desk is to show control.
+fn address_in(alloc: Global, found: &ArgMatches<'_>) -> Result<Address, LineFault> {
+    Ok(Address {
+        id: id_in(alloc, found)?,
+        format: format_in(alloc, found)?,
+        list: list_in(alloc, found)?,
+    })
 }
 
 /// The command `buttons`, with what stands after it.
-pub fn buttons_in(alloc: Global, found: &ArgMatches<'_>) -> Result<Buttons, LineFault> {
-    Ok(Buttons {
+pub fn buttons_in(alloc: Global, found: &ArgMatches<'_>) -> Result<Line, LineFault> {
+    Ok(Line::Buttons(Buttons {
+        keys: keys_in(alloc, found)?,
+        address: address_in(alloc, found)?,
+        port: port_in(alloc, found)?,
+        name: asker_in(alloc, found)?,
         dir: text_in(alloc, found, "DIR")?,
         file: option_in(alloc, found, "FILE")?,
         midi: text_in(alloc, found, "midi")?,
-        keys: keys_in(alloc, found)?,
-        address: Address {
-            id: id_in(alloc, found)?,
-            format: format_in(alloc, found)?,
-            list: list_in(alloc, found)?,
-        },
-        port: port_in(alloc, found)?,
-        name: asker_in(alloc, found)?,
-    })
+    }))
 }

@@ -3,11 +3,11 @@
 ghost use Rattle.std.specs.Prelude.{IfOk, IfSome, codes};
 ghost use Rattle.cue_desk_line.specs.Orders.{IsPressedBy};
 
-use super::commands::{option, port};
-use super::reporting::{asker, asker_in};
+use super::arguments::{ASKER, Argument, Declared, PORT};
+use super::reporting::asker_in;
 use super::words::{Environment, Line};
-use super::{cue_in, port_in};
-use clap::{Arg, ArgAction, ArgMatches, Command};
+use super::{cue_of, or_unfit, owned, port_in};
+use clap::ArgMatches;
 use cue_asker::AskerName;
 use cue_desk::line::{LineFault, unfit};
 use cue_presses::Intent;
@@ -41,75 +41,61 @@ pub struct Pressed {
     pub name: Option<AskerName>,
 }
 
-// The cue of a command that can do without.
-fn cue<'a>(alloc: Global, help: &'a str) -> Arg<'a> {
-    Arg::new(alloc, "CUE").help(help).action(ArgAction::Set)
-}
-
-// The cues that are stood by together; without one the cue that is next, with those that the show file has with it.
-fn cues<'a>(alloc: Global) -> Arg<'a> {
-    let help =
-        "The number of the cue, as 12.5; of several: they stand by together; else it is the cue that is next";
-    cue(alloc, help).num_args(0..=MAX_TOGETHER)
-}
-
-// The show file, for a command without a number.
-fn show_file<'a>(alloc: Global) -> Arg<'a> {
-    let help =
-        "Without a cue: the show file, for the cues that stand by together; else CUEDESK_FILE says it";
-    option(alloc, "file", help).value_name("FILE")
-}
-
-// The folder of the store, for a command without a number.
-fn store<'a>(alloc: Global) -> Arg<'a> {
-    let help =
-        "Without a cue: the folder that a.area and b.area stand in; else CUEDESK_STORE says it";
-    option(alloc, "store", help).value_name("DIR")
-}
-
-// How long `go` waits. The time stands after `=`: `go --wait 5` is a go of cue 5.
-fn wait<'a>(alloc: Global) -> Arg<'a> {
-    Arg::new(alloc, "wait")
-        .help("Wait until the cue is ready, so many seconds at most; 10 where nothing is said")
-        .long("wait")
-        .value_name("SECONDS")
-        .action(ArgAction::Set)
-        .num_args(0..=1)
-        .require_equals(true)
-        .default_missing_value("10")
-}
+/// The folder of the store, for a command without a number.
+const STORE: Argument = Argument::OptionOf(
+    "store",
+    "DIR",
+    "Without a cue: the folder that a.area and b.area stand in; else CUEDESK_STORE says it",
+);
 
 /// The command `standby`.
-pub fn standby_command<'a>(alloc: Global) -> Result<Command<'a>, AllocError> {
-    Command::new(alloc, "standby")
-        .about("Have the devices of a cue stand by:  cuedesk standby 12.5")
-        .arg(cues(alloc))?
-        .arg(store(alloc))?
-        .arg(show_file(alloc))?
-        .arg(port(alloc))?
-        .arg(asker(alloc))
-}
+pub(super) const STANDBY_COMMAND: Declared = Declared {
+    name: "standby",
+    about: "Have the devices of a cue stand by:  cuedesk standby 12.5",
+    arguments: &[
+        Argument::Words(
+            "CUE",
+            MAX_TOGETHER,
+            "The number of the cue, as 12.5; of several: they stand by together; else it is the cue that is next",
+        ),
+        STORE,
+        Argument::OptionOf(
+            "file",
+            "FILE",
+            "Without a cue: the show file, for the cues that stand by together; else CUEDESK_FILE says it",
+        ),
+        PORT,
+        ASKER,
+    ],
+};
 
-/// The command `go`.
-pub fn go_command<'a>(alloc: Global) -> Result<Command<'a>, AllocError> {
-    Command::new(alloc, "go")
-        .about("Give a cue that is stood by:  cuedesk go 12.5")
-        .arg(cue(
-            alloc,
+/// The command `go`. How long it waits stands after `=`: `go --wait 5` is a go of cue 5.
+pub(super) const GO_COMMAND: Declared = Declared {
+    name: "go",
+    about: "Give a cue that is stood by:  cuedesk go 12.5",
+    arguments: &[
+        Argument::OptionalWord(
+            "CUE",
             "The number of the cue, as 12.5; else it is the only one that is ready",
-        ))?
-        .arg(store(alloc))?
-        .arg(wait(alloc))?
-        .arg(port(alloc))?
-        .arg(asker(alloc))
-}
+        ),
+        STORE,
+        Argument::OptionElse(
+            "wait",
+            "SECONDS",
+            "10",
+            "Wait until the cue is ready, so many seconds at most; 10 where nothing is said",
+        ),
+        PORT,
+        ASKER,
+    ],
+};
 
 // The cue that stands there, if one does.
 fn some_cue_in(alloc: Global, found: &ArgMatches<'_>) -> Result<Option<CueNo>, LineFault> {
-    if found.get_str("CUE").is_none() {
-        return Ok(None);
+    match found.get_str("CUE") {
+        Some(text) => Ok(Some(cue_of(alloc, text)?)),
+        None => Ok(None),
     }
-    Ok(Some(cue_in(alloc, found)?))
 }
 
 // How long is waited, if it is.
@@ -127,18 +113,19 @@ fn wait_in(alloc: Global, text: Option<&str>) -> Result<Option<u64>, LineFault> 
     }
 }
 
-// The cue that a word names.
-fn cue_of(alloc: Global, text: &str) -> Result<CueNo, LineFault> {
-    CueNo::read(text.as_bytes()).ok_or(unfit(
-        alloc,
-        text,
-        "is no cue number: write digits with single points, as 12.5, 16 characters at most",
-    ))
-}
-
 // One cue more.
 fn push_cue(cues: &mut Vec<CueNo>, cue: CueNo) -> Result<(), AllocError> {
     cues.push(cue)?;
+    Ok(())
+}
+
+// The cue that a word names, if it is not there yet.
+fn add_cue(alloc: Global, cues: &mut Vec<CueNo>, word: &str) -> Result<(), LineFault> {
+    let cue = cue_of(alloc, word)?;
+    if cues.contains(&cue) {
+        return Err(unfit(alloc, word, "is named twice: name each cue once"));
+    }
+    push_cue(cues, cue)?;
     Ok(())
 }
 
@@ -146,13 +133,26 @@ fn push_cue(cues: &mut Vec<CueNo>, cue: CueNo) -> Result<(), AllocError> {
 fn cues_of(alloc: Global, words: &[&str]) -> Result<Vec<CueNo>, LineFault> {
     let mut cues: Vec<CueNo> = Vec::new(alloc);
     for word in words {
-        let cue = cue_of(alloc, word)?;
-        if cues.iter().any(|other| *other == cue) {
-            return Err(unfit(alloc, word, "is named twice: name each cue once"));
-        }
-        push_cue(&mut cues, cue)?;
+        add_cue(alloc, &mut cues, word)?;
     }
     Ok(cues)
+}
+
+// A cue stands by, and with it the others.
+fn stand_by_in(
+    alloc: Global,
+    found: &ArgMatches<'_>,
+    cue: CueNo,
+    others: &[CueNo],
+) -> Result<Line, LineFault>
+    ensures { IfOk result (IsPressedBy (codes "standby")) }
+{
+    Ok(Line::StandBy {
+        cue,
+        port: port_in(alloc, found)?,
+        name: asker_in(alloc, found)?,
+        others: Vec::from_slice(alloc, others)?,
+    })
 }
 
 // The command `standby` of several cues.
@@ -161,12 +161,7 @@ fn together_in(alloc: Global, found: &ArgMatches<'_>, words: &[&str]) -> Result<
 {
     let cues = cues_of(alloc, words)?;
     match cues.as_slice() {
-        [first, rest @ ..] => Ok(Line::StandBy {
-            cue: *first,
-            others: Vec::from_slice(alloc, rest)?,
-            port: port_in(alloc, found)?,
-            name: asker_in(alloc, found)?,
-        }),
+        [first, rest @ ..] => stand_by_in(alloc, found, *first, rest),
         [] => Err(unfit(alloc, "standby", NO_STORE)),
     }
 }
@@ -179,31 +174,6 @@ fn several<'a>(found: &'a ArgMatches<'_>) -> Option<&'a [&'a str]> {
     }
 }
 
-// The show file: the one that is written there, else that of the environment.
-fn file_in(
-    alloc: Global,
-    found: &ArgMatches<'_>,
-    environment: Option<&str>,
-) -> Result<Option<String>, LineFault> {
-    match found.get_str("file").or(environment) {
-        Some(file) => Ok(Some(String::from_str(alloc, file)?)),
-        None => Ok(None),
-    }
-}
-
-// The folder of the store: the one that is written there, else that of the environment.
-fn dir_in(
-    alloc: Global,
-    found: &ArgMatches<'_>,
-    name: &str,
-    environment: Option<&str>,
-) -> Result<String, LineFault> {
-    match found.get_str("store").or(environment) {
-        Some(dir) => Ok(String::from_str(alloc, dir)?),
-        None => Err(unfit(alloc, name, NO_STORE)),
-    }
-}
-
 // The command `standby` without a number.
 fn standby_in(
     alloc: Global,
@@ -212,13 +182,15 @@ fn standby_in(
 ) -> Result<Line, LineFault>
     ensures { IfOk result (IsPressedBy (codes "standby")) }
 {
+    let dir = found.get_str("store").or(environment.store);
+    let dir = or_unfit(alloc, dir, "standby", NO_STORE)?;
     Ok(Line::Press(Pressed {
         intent: Intent::Standby(None),
-        dir: dir_in(alloc, found, "standby", environment.store)?,
-        file: file_in(alloc, found, environment.file)?,
         wait: None,
         port: port_in(alloc, found)?,
         name: asker_in(alloc, found)?,
+        dir: String::from_str(alloc, dir)?,
+        file: owned(alloc, found.get_str("file").or(environment.file))?,
     }))
 }
 
@@ -230,13 +202,20 @@ fn go_in(
 ) -> Result<Line, LineFault>
     ensures { IfOk result (IsPressedBy (codes "go")) }
 {
+    let intent = Intent::Go(some_cue_in(alloc, found)?);
+    let dir = or_unfit(
+        alloc,
+        found.get_str("store").or(environment),
+        "go",
+        NO_STORE,
+    )?;
     Ok(Line::Press(Pressed {
-        intent: Intent::Go(some_cue_in(alloc, found)?),
-        dir: dir_in(alloc, found, "go", environment)?,
-        file: None,
+        intent,
         wait: wait_in(alloc, found.get_str("wait"))?,
         port: port_in(alloc, found)?,
         name: asker_in(alloc, found)?,
+        dir: String::from_str(alloc, dir)?,
+        file: None,
     }))
 }
 

@@ -1,7 +1,8 @@
 //! The command `rehearse`, and what stands after it.
-use super::commands::{option, over_file};
-use super::text_in;
-use clap::{Arg, ArgMatches, Command, value_parser};
+use super::arguments::{Argument, Bits, Declared, FILE};
+use super::words::Line;
+use super::{or_unfit, text_in};
+use clap::ArgMatches;
 use cue_desk::line::{LineFault, unfit};
 use cue_rehearsal::{MAX_TIME, Plan, read_devices};
 use cue_show::DeviceNo;
@@ -50,61 +51,58 @@ fn timed(plan: &mut Plan, times: Times) {
     }
 }
 
-/// The plan of a file, with what the flags say.
-pub fn with_flags(alloc: Global, plan: &mut Plan, flags: &Flags) -> Result<(), AllocError> {
-    timed(plan, flags.times);
-    if let Some(devices) = &flags.named.silent {
-        plan.silent = Vec::from_slice(alloc, devices)?;
-    }
-    if let Some(devices) = &flags.named.refuses {
-        plan.refuses = Vec::from_slice(alloc, devices)?;
-    }
-    if let Some(devices) = &flags.named.fails {
-        plan.fails = Vec::from_slice(alloc, devices)?;
+// The devices of a file, or else those that a flag says.
+fn say_devices(
+    alloc: Global,
+    devices: &mut Vec<DeviceNo>,
+    said: &Option<Vec<DeviceNo>>,
+) -> Result<(), AllocError> {
+    if let Some(said) = said {
+        *devices = Vec::from_slice(alloc, said)?;
     }
     Ok(())
 }
 
-// A flag with a number after it.
-fn numbered<'a>(alloc: Global, name: &'a str, help: &'a str) -> Arg<'a> {
-    option(alloc, name, help).value_parser(value_parser!(u32))
-}
-
-// What the draws come from.
-fn seed<'a>(alloc: Global) -> Arg<'a> {
-    let help = "What the draws come from: the same seed draws the same";
-    option(alloc, "seed", help).value_parser(value_parser!(u64))
-}
-
-// The command `rehearse`, with the flags of times.
-fn with_times<'a>(alloc: Global) -> Result<Command<'a>, AllocError> {
-    let about =
-        "Play every device of a show file, until Ctrl-C:  cuedesk rehearse evening.toml --silent 22";
-    let prepare = "Milliseconds to prepare, and to give up";
-    over_file(alloc, "rehearse", about)?
-        .arg(seed(alloc))?
-        .arg(numbered(alloc, "prepare", prepare))?
-        .arg(numbered(alloc, "move", "Milliseconds to move"))
-}
-
-// The same, with the flags of chance.
-fn with_chance<'a>(alloc: Global) -> Result<Command<'a>, AllocError> {
-    let spread = "Milliseconds that each may take longer, by chance";
-    let loss = "How many of a hundred datagrams are lost";
-    with_times(alloc)?
-        .arg(numbered(alloc, "spread", spread))?
-        .arg(numbered(alloc, "loss", loss))
+/// The plan of a file, with what the flags say.
+pub fn with_flags(alloc: Global, plan: &mut Plan, flags: &Flags) -> Result<(), AllocError> {
+    timed(plan, flags.times);
+    say_devices(alloc, &mut plan.silent, &flags.named.silent)?;
+    say_devices(alloc, &mut plan.refuses, &flags.named.refuses)?;
+    say_devices(alloc, &mut plan.fails, &flags.named.fails)
 }
 
 /// The command `rehearse`.
-pub fn rehearse<'a>(alloc: Global) -> Result<Command<'a>, AllocError> {
-    let refuses = "Devices that abort in place of preparing";
-    let fails = "Devices that abort in place of moving";
-    with_chance(alloc)?
-        .arg(option(alloc, "silent", "Devices that never answer, as 3,22"))?
-        .arg(option(alloc, "refuses", refuses))?
-        .arg(option(alloc, "fails", fails))
-}
+pub(super) const REHEARSE_COMMAND: Declared = Declared {
+    name: "rehearse",
+    about: "Play every device of a show file, until Ctrl-C:  cuedesk rehearse evening.toml --silent 22",
+    arguments: &[
+        FILE,
+        Argument::Number(
+            Bits::Of64,
+            "seed",
+            "What the draws come from: the same seed draws the same",
+        ),
+        Argument::Number(
+            Bits::Of32,
+            "prepare",
+            "Milliseconds to prepare, and to give up",
+        ),
+        Argument::Number(Bits::Of32, "move", "Milliseconds to move"),
+        Argument::Number(
+            Bits::Of32,
+            "spread",
+            "Milliseconds that each may take longer, by chance",
+        ),
+        Argument::Number(
+            Bits::Of32,
+            "loss",
+            "How many of a hundred datagrams are lost",
+        ),
+        Argument::Option("silent", "Devices that never answer, as 3,22"),
+        Argument::Option("refuses", "Devices that abort in place of preparing"),
+        Argument::Option("fails", "Devices that abort in place of moving"),
+    ],
+};
 
 // A number that is too large for this flag.
 fn too_large(alloc: Global, name: &str, number: u32, most: u32) -> Result<LineFault, AllocError> {
@@ -136,14 +134,9 @@ fn devices_in(
     let Some(text) = found.get_str(name) else {
         return Ok(None);
     };
-    match read_devices(alloc, text)? {
-        Some(devices) => Ok(Some(devices)),
-        None => Err(unfit(
-            alloc,
-            text,
-            "is no list of devices: write their numbers, 0 to 111, with commas, as 3,22",
-        )),
-    }
+    let wanted = "is no list of devices: write their numbers, 0 to 111, with commas, as 3,22";
+    let devices = or_unfit(alloc, read_devices(alloc, text)?, text, wanted)?;
+    Ok(Some(devices))
 }
 
 // What the flags say of times, and of what is lost.
@@ -173,11 +166,11 @@ fn flags_in(alloc: Global, found: &ArgMatches<'_>) -> Result<Flags, LineFault> {
     })
 }
 
-/// What is rehearsed.
-pub fn rehearsal_in(alloc: Global, found: &ArgMatches<'_>) -> Result<Rehearsal, LineFault> {
-    Ok(Rehearsal {
+/// The command `rehearse`, with what stands after it.
+pub fn rehearsal_in(alloc: Global, found: &ArgMatches<'_>) -> Result<Line, LineFault> {
+    Ok(Line::Rehearse(Rehearsal {
         file: text_in(alloc, found, "FILE")?,
         seed: found.get_one::<u64>("seed").unwrap_or(1),
         flags: flags_in(alloc, found)?,
-    })
+    }))
 }

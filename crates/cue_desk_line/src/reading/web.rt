@@ -3,15 +3,15 @@ ghost use Rattle.std.specs.Prelude.{◌≡◌, ◌↔◌, string_bytes, IfOk, If
 ghost use Rattle.cue_request.specs.Identity.{IsName};
 ghost use Rattle.cue_desk_line.specs.Pages.{fit_of, IsLock, IsShown, IsUse};
 
-use super::commands::{flag, names_file, option, over_dir, port_or_file, relay_status};
-use super::reporting::{asker, asker_in};
+use super::arguments::{ASKER, Argument, Bits, DIR, Declared, NAMES, PORT_OR_FILE, RELAY_STATUS};
+use super::reporting::asker_in;
 use super::{no_port, option_in, port_in, text_in};
-use clap::{Arg, ArgAction, ArgMatches, Command, value_parser};
+use clap::ArgMatches;
 use cue_asker::AskerName;
 use cue_desk::line::{LineFault, unfit};
 use cue_request::identity::is_name;
 use cue_request::lock::is_word;
-use std::alloc::{AllocError, Global};
+use std::alloc::Global;
 
 /// The word of the lock of a show, or where it stands.
 #[derive(Drop)]
@@ -49,7 +49,7 @@ pub struct Web {
 }
 
 /// Whether the options of a page go together.
-#[derive(Clone, Copy, Debug, PartialEq, Eq)]
+#[derive(Clone, Copy)]
 pub enum Fit {
     Together,
     /// A page with buttons stays on this machine: it has no other name.
@@ -60,45 +60,39 @@ pub enum Fit {
     TwoWords,
 }
 
-// The port of 127.0.0.1 at which the page is.
-fn http<'a>(alloc: Global) -> Arg<'a> {
-    Arg::new(alloc, "http")
-        .help("The port of 127.0.0.1 at which the page is served")
-        .long("http")
-        .required(true)
-        .action(ArgAction::Set)
-        .value_parser(value_parser!(u16))
-}
-
-// The command `web`, without its options.
-fn web_of_files<'a>(alloc: Global) -> Result<Command<'a>, AllocError> {
-    let about =
-        "Show the board with buttons in a browser:  cuedesk web show evening.toml --http 8080";
-    over_dir(alloc, "web", about)?.arg(names_file(alloc))
-}
-
-// The same, with the options that say what the page is for.
-fn web_of_uses<'a>(alloc: Global) -> Result<Command<'a>, AllocError> {
-    let read_only = "The page only shows: it has no buttons, and takes no press";
-    let host =
-        "With --read-only: the name that a proxy gives the page, as fly.example or fly.example:8443";
-    let lock = "Goto and release want this word first; others of this machine can read it here";
-    let lock_file = "The same, with the first line of this file as the word";
-    web_of_files(alloc)?
-        .arg(http(alloc))?
-        .arg(flag(alloc, "read-only", read_only))?
-        .arg(option(alloc, "host", host))?
-        .arg(option(alloc, "lock", lock))?
-        .arg(option(alloc, "lock-file", lock_file))
-}
-
 /// The command `web`.
-pub fn web_command<'a>(alloc: Global) -> Result<Command<'a>, AllocError> {
-    web_of_uses(alloc)?
-        .arg(relay_status(alloc))?
-        .arg(port_or_file(alloc))?
-        .arg(asker(alloc))
-}
+pub(super) const WEB_COMMAND: Declared = Declared {
+    name: "web",
+    about: "Show the board with buttons in a browser:  cuedesk web show evening.toml --http 8080",
+    arguments: &[
+        DIR,
+        NAMES,
+        Argument::RequiredNumber(
+            Bits::Of16,
+            "http",
+            "The port of 127.0.0.1 at which the page is served",
+        ),
+        Argument::Flag(
+            "read-only",
+            "The page only shows: it has no buttons, and takes no press",
+        ),
+        Argument::Option(
+            "host",
+            "With --read-only: the name that a proxy gives the page, as fly.example or fly.example:8443",
+        ),
+        Argument::Option(
+            "lock",
+            "Goto and release want this word first; others of this machine can read it here",
+        ),
+        Argument::Option(
+            "lock-file",
+            "The same, with the first line of this file as the word",
+        ),
+        RELAY_STATUS,
+        PORT_OR_FILE,
+        ASKER,
+    ],
+};
 
 // Whether the options go together that are given.
 fn fit_of(is_read_only: bool, has_host: bool, has_lock: bool, has_file: bool) -> Fit
@@ -154,18 +148,30 @@ fn host_in(alloc: Global, found: &ArgMatches<'_>) -> Result<Option<String>, Line
     ))
 }
 
+// The word of the lock, as it is said.
+fn said_lock(alloc: Global, word: &str) -> Result<LockWord, LineFault>
+    ensures { IfOk result IsLock }
+{
+    if !is_word(word.as_bytes()) {
+        return Err(unfit(
+            alloc,
+            "--lock",
+            "wants a word of 1 to 64 letters, digits and signs of ASCII, without spaces",
+        ));
+    }
+    Ok(LockWord::Said(String::from_str(alloc, word)?))
+}
+
 // The word of the lock, or where it stands.
 fn lock_in(alloc: Global, found: &ArgMatches<'_>) -> Result<Option<LockWord>, LineFault>
     ensures { IfOk result (λ lock. IfSome lock IsLock) }
 {
-    match option_in(alloc, found, "lock")? {
-        Some(word) if is_word(word.as_bytes()) => Ok(Some(LockWord::Said(word))),
-        Some(_) => Err(unfit(
-            alloc,
-            "--lock",
-            "wants a word of 1 to 64 letters, digits and signs of ASCII, without spaces",
-        )),
-        None => Ok(option_in(alloc, found, "lock-file")?.map(LockWord::InFile)),
+    if let Some(word) = found.get_str("lock") {
+        return Ok(Some(said_lock(alloc, word)?));
+    }
+    match found.get_str("lock-file") {
+        Some(path) => Ok(Some(LockWord::InFile(String::from_str(alloc, path)?))),
+        None => Ok(None),
     }
 }
 
@@ -186,29 +192,37 @@ fn use_in(alloc: Global, found: &ArgMatches<'_>) -> Result<PageUse, LineFault>
     ensures { IfOk result IsUse }
 {
     let is_read_only = found.get_flag("read-only");
-    let has = |id: &str| found.get_str(id).is_some();
-    let fit = fit_of(is_read_only, has("host"), has("lock"), has("lock-file"));
-    if let Some(fault) = misfit(alloc, fit) {
-        return Err(fault);
+    let fit = fit_of(
+        is_read_only,
+        found.contains_id("host"),
+        found.contains_id("lock"),
+        found.contains_id("lock-file"),
+    );
+    match misfit(alloc, fit) {
+        Some(fault) => Err(fault),
+        None => use_of(alloc, found, is_read_only),
     }
-    use_of(alloc, found, is_read_only)
+}
+
+// The port of 127.0.0.1 at which the page is.
+fn http_in(alloc: Global, found: &ArgMatches<'_>) -> Result<u16, LineFault> {
+    match found.get_one::<u16>("http") {
+        Some(http) if http >= 1 => Ok(http),
+        _ => Err(no_port(alloc, "0")),
+    }
 }
 
 /// The command `web`, with what stands after it.
 pub fn web_in(alloc: Global, found: &ArgMatches<'_>) -> Result<Web, LineFault>
     ensures { IfOk result (λ web. IsUse web.page_use) }
 {
-    let file = option_in(alloc, found, "FILE")?;
-    match found.get_one::<u16>("http") {
-        Some(http) if http >= 1 => Ok(Web {
-            dir: text_in(alloc, found, "DIR")?,
-            file,
-            relay: option_in(alloc, found, "relay")?,
-            http,
-            port: port_in(alloc, found)?,
-            name: asker_in(alloc, found)?,
-            page_use: use_in(alloc, found)?,
-        }),
-        _ => Err(no_port(alloc, "0")),
-    }
+    Ok(Web {
+        http: http_in(alloc, found)?,
+        port: port_in(alloc, found)?,
+        name: asker_in(alloc, found)?,
+        page_use: use_in(alloc, found)?,
+        dir: text_in(alloc, found, "DIR")?,
+        file: option_in(alloc, found, "FILE")?,
+        relay: option_in(alloc, found, "relay")?,
+    })
 }

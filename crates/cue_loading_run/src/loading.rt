@@ -4,6 +4,7 @@ mod adding;
 mod asking;
 mod comparing;
 mod counts;
+mod entry;
 mod keeping;
 mod order;
 mod progress;
@@ -17,6 +18,7 @@ use cue_desk::ending::Ending;
 use cue_desk::ports::controller_port;
 use cue_files_run::{Sound, read_sound};
 use cue_loading::Manner;
+use cue_show::Show;
 use cue_show_file::{ShowFile, Subject};
 use progress::Progress;
 use std::fs::{File, Files};
@@ -56,13 +58,12 @@ impl<'a, R: Net + Eprint + AllocGlobal, W: Write> Loading<'a, R, W> {
 
     // Adds what the file has, devices first, and says what became of all.
     fn add(&mut self, file: &ShowFile) -> Result<Added, Ending> {
-        let devices = self.load_devices(&file.devices)?;
-        let (cues, comes_late) = self.load_cues(&file.cues)?;
+        let (devices, _) = self.load(&file.devices)?;
+        let (cues, comes_late) = self.load(&file.cues)?;
         self.progress.clear();
         let alloc = self.asker.alloc();
-        self.progress
-            .print(devices.text(alloc, "devices")?.as_str())?;
-        self.progress.print(cues.text(alloc, "cues")?.as_str())?;
+        self.progress.print(devices.text(alloc, "devices"))?;
+        self.progress.print(cues.text(alloc, "cues"))?;
         Ok(Added {
             is_refused: devices.refused > 0 || cues.refused > 0,
             comes_late,
@@ -83,11 +84,10 @@ impl<'a, R: Net + Eprint + AllocGlobal, W: Write> Loading<'a, R, W> {
 
     // Says that the store was not compared with the file, and how it is.
     fn tell_uncompared(&mut self, path: &str) -> Result<(), Ending> {
-        let text = format!(in self.asker.alloc();
+        self.progress.print(format!(in self.asker.alloc();
             "not compared with what else the store has, nor with its order: \
              cuedesk load {path} FOLDER does, with its folder\n"
-        )?;
-        self.progress.print(text.as_str())
+        ))
     }
 }
 
@@ -99,54 +99,79 @@ struct Added {
     comes_late: bool,
 }
 
-// Adds what the file has. If the folder of the store is known, what it had is kept before, and it is compared with the
-// file after.
-fn add_all<R: Files<File = File> + Net + Eprint + AllocGlobal, W: Write>(
-    rt: &R,
-    sound: &Sound,
-    what: Loaded<'_>,
-    mut loading: Loading<'_, R, W>,
-) -> Result<(), Ending> {
-    if let Some(dir) = what.dir {
-        let stored = loading.asker.stored(dir)?;
-        loading.keep(what, dir, &sound.show, &stored)?;
+impl<'a, R: Files<File = File> + Net + Eprint + AllocGlobal, W: Write> Loading<'a, R, W> {
+    // Keeps what the store in this folder has, if adding the file changes it.
+    fn keep_stored(&mut self, what: Loaded<'_>, dir: &str, file: &Show) -> Result<(), Ending> {
+        let stored = self.asker.stored(dir)?;
+        self.keep(what, dir, file, &stored)
     }
-    let added = loading.run(&sound.file)?;
-    let differs = match what.dir {
-        Some(dir) => {
-            let stored = loading.asker.stored(dir)?;
-            say_differences(rt, Compared::added(what.path, dir), &sound.show, &stored)?
+
+    // Compares the store with the file, and says what differs; whether something does.
+    fn compare(&mut self, compared: Compared<'_>, file: &Show) -> Result<bool, Ending> {
+        let stored = self.asker.stored(compared.dir)?;
+        say_differences(self.asker.rt(), compared, file, &stored)
+    }
+
+    // Whether the store is not what the file says, after what is new was added. Without the folder of the store only
+    // the order can be known.
+    fn differs(&mut self, what: Loaded<'_>, file: &Show, comes_late: bool) -> Result<bool, Ending> {
+        if let Some(dir) = what.dir {
+            return self.compare(Compared::added(what.path, dir), file);
         }
-        None => {
-            loading.tell_uncompared(what.path)?;
-            if added.comes_late {
-                loading.asker.say_other_order();
-            }
-            added.comes_late
+        self.tell_uncompared(what.path)?;
+        if comes_late {
+            self.asker.say_other_order();
         }
-    };
-    if added.is_refused || differs {
-        Err(Ending::Refused)
-    } else {
-        Ok(())
+        Ok(comes_late)
+    }
+
+    // Adds what the file has. If the folder of the store is known, what it had is kept before, and it is compared with
+    // the file after.
+    fn add_all(&mut self, what: Loaded<'_>, sound: &Sound) -> Result<(), Ending> {
+        if let Some(dir) = what.dir {
+            self.keep_stored(what, dir, &sound.show)?;
+        }
+        let added = self.run(&sound.file)?;
+        if self.differs(what, &sound.show, added.comes_late)? || added.is_refused {
+            Err(Ending::Refused)
+        } else {
+            Ok(())
+        }
+    }
+
+    // Puts the file in the place of what differs, and compares the store with it.
+    fn replace_all(&mut self, what: Loaded<'_>, file: &Show, dir: &str) -> Result<(), Ending> {
+        self.replace(what, file, dir)?;
+        if self.compare(Compared::replaced(what.path, dir), file)? {
+            Err(Ending::Refused)
+        } else {
+            Ok(())
+        }
     }
 }
 
-// Puts the file in the place of what differs, and compares the store with it.
-fn replace_all<R: Files<File = File> + Net + Eprint + AllocGlobal, W: Write>(
+// Loads a show file that has no mistake.
+fn load_sound<R: Files<File = File> + Net + Eprint + AllocGlobal, W: Write>(
     rt: &R,
-    sound: &Sound,
     what: Loaded<'_>,
-    dir: &str,
-    mut loading: Loading<'_, R, W>,
+    port: Option<u16>,
+    sound: &Sound,
+    writer: &mut W,
 ) -> Result<(), Ending> {
-    loading.replace(what, &sound.show, dir)?;
-    let stored = loading.asker.stored(dir)?;
-    let compared = Compared::replaced(what.path, dir);
-    if say_differences(rt, compared, &sound.show, &stored)? {
-        Err(Ending::Refused)
-    } else {
-        Ok(())
+    let (devices, cues) = (sound.file.devices.len(), sound.file.cues.len());
+    let all = devices.saturating_add(cues);
+    let port = controller_port(port, sound.file.port);
+    let wire = Wire::new(rt, port)?;
+    let mut loading = Loading {
+        asker: Asker::new(rt, port, wire),
+        progress: Progress::new(rt.alloc(), what.tells, all, writer),
+        is_open: false,
+    };
+    match (what.manner, what.dir) {
+        (Manner::Replaces | Manner::IsExact, Some(dir)) => {
+            loading.replace_all(what, &sound.show, dir)
+        }
+        _ => loading.add_all(what, sound),
     }
 }
 
@@ -159,21 +184,7 @@ pub fn load<R: Files<File = File> + Net + Eprint + AllocGlobal, W: Write>(
     writer: &mut W,
 ) -> Result<(), Ending> {
     let sound = read_sound(rt, what.path)?;
-    let port = controller_port(port, sound.file.port);
-    let all = sound
-        .file
-        .devices
-        .len()
-        .saturating_add(sound.file.cues.len());
-    let loading = Loading {
-        asker: Asker::new(rt, port, Wire::new(rt, port)?),
-        progress: Progress::new(rt.alloc(), what.tells, all, writer),
-        is_open: false,
-    };
-    match (what.manner, what.dir) {
-        (Manner::Replaces | Manner::IsExact, Some(dir)) => {
-            replace_all(rt, &sound, what, dir, loading)
-        }
-        _ => add_all(rt, &sound, what, loading),
-    }
+    let loaded = load_sound(rt, what, port, &sound, writer);
+    drop(sound);
+    loaded
 }

@@ -1,5 +1,5 @@
 //! The socket of a loading: one datagram, and what the controller replies to each of its messages.
-ghost use Rattle.std.specs.Prelude.{◌≡◌, IfOk, IfSome, length};
+ghost use Rattle.std.specs.Prelude.{◌≡◌, ◌+◌, IfOk, IfSome, Ok, length, true};
 
 use cue_desk::answered::{Answered, push};
 use cue_desk::asking::{Asked, address, datagram};
@@ -10,7 +10,7 @@ use cue_desk_run::local;
 use cue_osc::MAX_LEN;
 use cue_saying::say;
 use std::alloc::{AllocError, Global};
-use std::io::{Eprint, ErrorKind};
+use std::io::{self, Eprint, ErrorKind};
 use std::net::{Net, UdpSocket};
 use std::time::Duration;
 
@@ -27,6 +27,24 @@ const MAX_HEARD: u32 = 1_000;
 #[derive(Drop)]
 pub struct Wire {
     socket: UdpSocket,
+}
+
+// Lets a socket hear the controller at this port alone, for one silent wait at a time.
+fn connect(socket: &UdpSocket, port: u16) -> io::Result<()> {
+    socket.connect(local(port))?;
+    socket.set_read_timeout(Some(Duration::from_millis(WAIT)))
+}
+
+// A socket that hears the controller at this port alone.
+fn open_socket<R: Net>(rt: &R, port: u16) -> io::Result<UdpSocket> {
+    let socket = UdpSocket::bind(rt, local(0))?;
+    match connect(&socket, port) {
+        Ok(()) => Ok(socket),
+        Err(why) => {
+            drop(socket);
+            Err(why)
+        }
+    }
 }
 
 // What a datagram of the controller says to who asked at this address.
@@ -54,12 +72,7 @@ fn is_awaited(heard: &Heard, wants_status: bool) -> bool {
 impl Wire {
     /// A socket for the controller at this port.
     pub fn new<R: Net + Eprint>(rt: &R, port: u16) -> Result<Wire, Ending> {
-        let bound = UdpSocket::bind(rt, local(0)).and_then(|socket| {
-            socket.connect(local(port))?;
-            socket.set_read_timeout(Some(Duration::from_millis(WAIT)))?;
-            Ok(socket)
-        });
-        match bound {
+        match open_socket(rt, port) {
             Ok(socket) => Ok(Wire { socket }),
             Err(why) => {
                 say(rt, format_args!("no socket: {why}"));
@@ -82,6 +95,20 @@ impl Wire {
         let _ = self.socket.send(datagram);
     }
 
+    // Sends what is asked, once.
+    fn send_asked(&self, alloc: Global, asked: &Asked<'_>) -> Result<(), Ending> {
+        if !asked.is_askable() {
+            return Err(Ending::Failed);
+        }
+        match datagram(alloc, asked) {
+            Ok(datagram) => {
+                self.send(&datagram);
+                Ok(())
+            }
+            Err(_) => Err(Ending::Failed),
+        }
+    }
+
     /// Sends what is asked, once, and waits for what the controller replies: for the status, if that is asked, and
     /// else for the reply.
     pub fn ask(
@@ -90,17 +117,15 @@ impl Wire {
         asked: &Asked<'_>,
         sendings: Sendings,
     ) -> Result<Heard, Ending> {
-        if !asked.is_askable() {
-            return Err(Ending::Failed);
+        let address = address(alloc, asked)?;
+        match self.send_asked(alloc, asked) {
+            Ok(()) => {
+                let shown = &address[..address.len().min(SHOWN)];
+                let wants_status = matches!(asked, Asked::Status);
+                self.wait(alloc, shown, wants_status, sendings.silences())
+            }
+            Err(ending) => Err(ending),
         }
-        let Ok(datagram) = datagram(alloc, asked) else {
-            return Err(Ending::Failed);
-        };
-        let whole = address(alloc, asked)?;
-        let shown = &whole[..whole.len().min(SHOWN)];
-        let wants_status = matches!(asked, Asked::Status);
-        self.send(&datagram);
-        self.wait(alloc, shown, wants_status, sendings.silences())
     }
 
     // What became of the next command that was asked at this address; none if no reply came.
@@ -117,6 +142,26 @@ impl Wire {
         }
     }
 
+    // Puts what became of the next commands, so many, that were asked at this address after the others; whether all
+    // replies came.
+    fn hear_answers(
+        &self,
+        alloc: Global,
+        address: &[u8],
+        count: usize,
+        answers: &mut Vec<Answered>,
+    ) -> Result<bool, Ending>
+        ensures { result ≡ Ok true → length answers.new.items ≡ length answers.old.items + count }
+    {
+        for index in 0..count {
+            match self.next_answer(alloc, address, Sendings::of_reply(index))? {
+                Some(answered) => push(answers, answered)?,
+                None => return Ok(false),
+            }
+        }
+        Ok(true)
+    }
+
     /// Sends a datagram that asks so many commands at one address, once: what became of each, in order; none if one
     /// of the replies did not come. The first one is waited for as long as that of a single command, since the datagram
     /// is carried out whole before it.
@@ -131,13 +176,11 @@ impl Wire {
     {
         self.send(datagram);
         let mut answers = Vec::new(alloc);
-        for index in 0..count {
-            match self.next_answer(alloc, address, Sendings::of_reply(index))? {
-                Some(answered) => push(&mut answers, answered)?,
-                None => return Ok(None),
-            }
+        match self.hear_answers(alloc, address, count, &mut answers) {
+            Ok(true) => Ok(Some(answers)),
+            Ok(false) => Ok(None),
+            Err(ending) => Err(ending),
         }
-        Ok(Some(answers))
     }
 
     // Hears until what is wanted came, or none did so many times.
@@ -166,7 +209,7 @@ impl Wire {
 }
 
 /// How often a message is sent, which says how long one sending waits for its reply.
-#[derive(Clone, Copy, Debug, PartialEq, Eq)]
+#[derive(Clone, Copy)]
 pub enum Sendings {
     /// Once, as what an operator asks: it waits a second.
     One,

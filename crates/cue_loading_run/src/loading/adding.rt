@@ -1,68 +1,51 @@
 //! What a show file has is added: as many devices or cues by one datagram as fit into it.
-ghost use Rattle.std.specs.Prelude.{◌≡◌, IfOk, length};
+ghost use Rattle.std.specs.Prelude.{◌≡◌, ◌+◌, OnOk, length};
 
 use super::Loading;
 use super::counts::{Counts, became_of};
+use super::entry::Entry;
 use super::order::comes_late;
 use cue_desk::answered::Answered;
-use cue_desk::asking::{cues_that_fit, devices_that_fit};
 use cue_desk::ending::Ending;
-use cue_show_file::{CueEntry, DeviceEntry, Subject};
 use std::io::{Eprint, Write};
 use std::net::Net;
 
 impl<'a, R: Net + Eprint + AllocGlobal, W: Write> Loading<'a, R, W> {
-    // Adds all devices: what became of each.
-    pub(super) fn add_devices(&mut self, entries: &[DeviceEntry]) -> Result<Vec<Answered>, Ending>
-        ensures { IfOk result (λ answers. length answers.items ≡ length entries.now) }
+    // Adds all of these, and puts what became of each after the others. A datagram is carried out whole or not at all,
+    // so cues that are new come in the order of the file, also if one was lost and each is asked again.
+    fn add_entries<E: Entry>(
+        &mut self,
+        entries: &[E],
+        answers: &mut Vec<Answered>,
+    ) -> Result<(), Ending>
+        ensures { OnOk result (length answers.new.items ≡ length answers.old.items + length entries.now) }
     {
-        let mut answers = Vec::new(self.asker.alloc());
-        while answers.len() < entries.len() {
-            let rest = &entries[answers.len()..];
-            let first = &rest[..devices_that_fit(rest)];
-            let more = self.asker.add_devices(first)?;
-            answers.extend_from_slice(&more)?;
+        let mut rest = entries;
+        while !rest.is_empty() {
+            let (first, more) = rest.split_at(E::that_fit(rest));
+            self.asker.add(first, answers)?;
             self.progress.advance(first.len())?;
+            rest = more;
         }
-        Ok(answers)
+        Ok(())
     }
 
-    // Adds all cues: what became of each. A datagram is carried out whole or not at all, so cues that are new come in
-    // the order of the file, also if one was lost and each is asked again.
-    pub(super) fn add_cues(&mut self, entries: &[CueEntry]) -> Result<Vec<Answered>, Ending>
-        ensures { IfOk result (λ answers. length answers.items ≡ length entries.now) }
-    {
+    // Counts what became of these, and says of each that was refused that it was.
+    fn count_all<E: Entry>(&mut self, entries: &[E], answers: &[Answered]) -> Counts {
+        let mut counts = Counts::NONE;
+        for (entry, answered) in entries.iter().zip(answers) {
+            self.count(&mut counts, entry.subject(), became_of(*answered));
+        }
+        counts
+    }
+
+    // Adds all of these, and counts what became of them. Whether one that is new stands in the file before one that was
+    // there: a cue is after that one on the stack.
+    pub(super) fn load<E: Entry>(&mut self, entries: &[E]) -> Result<(Counts, bool), Ending> {
         let mut answers = Vec::new(self.asker.alloc());
-        while answers.len() < entries.len() {
-            let rest = &entries[answers.len()..];
-            let first = &rest[..cues_that_fit(rest)];
-            let more = self.asker.add_cues(first)?;
-            answers.extend_from_slice(&more)?;
-            self.progress.advance(first.len())?;
+        match self.add_entries(entries, &mut answers) {
+            Ok(()) => Ok((self.count_all(entries, &answers), comes_late(&answers))),
+            Err(ending) => Err(ending),
         }
-        Ok(answers)
-    }
-
-    // Adds all devices, and counts what became of them.
-    pub(super) fn load_devices(&mut self, entries: &[DeviceEntry]) -> Result<Counts, Ending> {
-        let answers = self.add_devices(entries)?;
-        let mut counts = Counts::NONE;
-        for (index, entry) in entries.iter().enumerate() {
-            let became = became_of(answers[index]);
-            self.count(&mut counts, Subject::Device(entry.number), became);
-        }
-        Ok(counts)
-    }
-
-    // Adds all cues, and counts what became of them. Whether one that is new stands in the file before one that was
-    // there: it is after that one on the stack.
-    pub(super) fn load_cues(&mut self, entries: &[CueEntry]) -> Result<(Counts, bool), Ending> {
-        let answers = self.add_cues(entries)?;
-        let mut counts = Counts::NONE;
-        for (index, entry) in entries.iter().enumerate() {
-            let became = became_of(answers[index]);
-            self.count(&mut counts, Subject::Cue(entry.number), became);
-        }
-        Ok((counts, comes_late(&answers)))
     }
 }

@@ -1,19 +1,21 @@
 //! What is asked while a show file is loaded: again if no reply came, with words if it is refused.
-ghost use Rattle.std.specs.Prelude.{◌≡◌, IfOk, IfSome, length};
+ghost use Rattle.std.specs.Prelude.{◌≡◌, ◌+◌, IfOk, IfSome, OnOk, length};
 
+use super::entry::Entry;
 use crate::wire::{Sendings, Wire};
 use cue_desk::answered::{Answered, push};
-use cue_desk::asking::{Asked, bundle_of_cues, bundle_of_devices};
+use cue_desk::asking::Asked;
 use cue_desk::ending::Ending;
 use cue_desk::hearing::reply_in;
 use cue_desk::replying::{Replied, Status};
 use cue_loading::live_words;
 use cue_saying::say;
 use cue_show::CueNo;
-use cue_show_file::{CueEntry, DeviceEntry, Subject};
+use cue_show_file::Subject;
 use cue_words::code_words;
 use std::alloc::Global;
 use std::io::Eprint;
+use std::mem;
 use std::net::Net;
 
 /// The most times that a message is sent.
@@ -55,15 +57,21 @@ impl<'a, R: Net + Eprint + AllocGlobal> Asker<'a, R> {
         self.rt.alloc()
     }
 
-    // Sends the message, and again if no reply came. Each sending after the first has a socket of its own, so that a
-    // late reply to an earlier one is not taken for the reply to another message.
+    // Takes a new socket, so that a late reply to what was sent is not taken for the reply to another message.
+    fn renew(&mut self) -> Result<(), Ending> {
+        let wire = Wire::new(self.rt, self.port)?;
+        drop(mem::replace(&mut self.wire, wire));
+        Ok(())
+    }
+
+    // Sends the message, and again if no reply came. Each sending after the first has a socket of its own.
     fn hear(&mut self, asked: &Asked<'_>) -> Result<Option<Replied>, Ending> {
         for _ in 0..MAX_SENDINGS {
             let heard = self.wire.ask(self.rt.alloc(), asked, Sendings::OfSome)?;
             if let Some(replied) = reply_in(heard) {
                 return Ok(Some(replied));
             }
-            self.wire = Wire::new(self.rt, self.port)?;
+            self.renew()?;
         }
         Ok(None)
     }
@@ -89,63 +97,52 @@ impl<'a, R: Net + Eprint + AllocGlobal> Asker<'a, R> {
         ensures { IfOk result (λ some. IfSome some (λ answers. length answers.items ≡ count)) }
     {
         let alloc = self.rt.alloc();
-        let answers = self.wire.ask_together(alloc, datagram, address, count)?;
-        if answers.is_none() {
-            self.wire = Wire::new(self.rt, self.port)?;
+        match self.wire.ask_together(alloc, datagram, address, count)? {
+            Some(answers) => Ok(Some(answers)),
+            None => {
+                self.renew()?;
+                Ok(None)
+            }
         }
-        Ok(answers)
     }
 
-    // Adds each of these devices by itself.
-    fn add_each_device(&mut self, entries: &[DeviceEntry]) -> Result<Vec<Answered>, Ending>
-        ensures { IfOk result (λ answers. length answers.items ≡ length entries.now) }
+    // Adds each of these by itself, and puts what became of it after the others.
+    fn add_each<E: Entry>(
+        &mut self,
+        entries: &[E],
+        answers: &mut Vec<Answered>,
+    ) -> Result<(), Ending>
+        ensures { OnOk result (length answers.new.items ≡ length answers.old.items + length entries.now) }
     {
-        let mut answers = Vec::new(self.rt.alloc());
         for entry in entries {
-            let asked = Asked::AddDevice(entry.number, entry.port);
-            push(
-                &mut answers,
-                self.ask(Subject::Device(entry.number), &asked)?,
-            )?;
+            let answered = self.ask(entry.subject(), &entry.asked())?;
+            push(answers, answered)?;
         }
-        Ok(answers)
+        Ok(())
     }
 
-    // Adds each of these cues by itself.
-    fn add_each_cue(&mut self, entries: &[CueEntry]) -> Result<Vec<Answered>, Ending>
-        ensures { IfOk result (λ answers. length answers.items ≡ length entries.now) }
+    // Adds these by one datagram: what became of each; none if that is no datagram, or if a reply to it did not come.
+    fn add_together<E: Entry>(&mut self, entries: &[E]) -> Result<Option<Vec<Answered>>, Ending>
+        ensures { IfOk result (λ some. IfSome some (λ answers. length answers.items ≡ length entries.now)) }
     {
-        let mut answers = Vec::new(self.rt.alloc());
-        for entry in entries {
-            let asked = Asked::AddCue(entry.number, &entry.parts);
-            push(&mut answers, self.ask(Subject::Cue(entry.number), &asked)?)?;
-        }
-        Ok(answers)
-    }
-
-    /// Adds these devices by one datagram, and each by itself if a reply to that did not come: what became of each.
-    pub fn add_devices(&mut self, entries: &[DeviceEntry]) -> Result<Vec<Answered>, Ending>
-        ensures { IfOk result (λ answers. length answers.items ≡ length entries.now) }
-    {
-        let Ok(datagram) = bundle_of_devices(self.rt.alloc(), entries) else {
-            return self.add_each_device(entries);
-        };
-        match self.ask_together(&datagram, b"/show/device", entries.len())? {
-            Some(answers) => Ok(answers),
-            None => self.add_each_device(entries),
+        match E::bundle(self.rt.alloc(), entries) {
+            Ok(datagram) => self.ask_together(&datagram, E::address(), entries.len()),
+            Err(_) => Ok(None),
         }
     }
 
-    /// Adds these cues likewise.
-    pub fn add_cues(&mut self, entries: &[CueEntry]) -> Result<Vec<Answered>, Ending>
-        ensures { IfOk result (λ answers. length answers.items ≡ length entries.now) }
+    /// Adds these by one datagram, and each by itself if a reply to that did not come. What became of each is put after
+    /// the others.
+    pub fn add<E: Entry>(
+        &mut self,
+        entries: &[E],
+        answers: &mut Vec<Answered>,
+    ) -> Result<(), Ending>
+        ensures { OnOk result (length answers.new.items ≡ length answers.old.items + length entries.now) }
     {
-        let Ok(datagram) = bundle_of_cues(self.rt.alloc(), entries) else {
-            return self.add_each_cue(entries);
-        };
-        match self.ask_together(&datagram, b"/show/mixed", entries.len())? {
-            Some(answers) => Ok(answers),
-            None => self.add_each_cue(entries),
+        match self.add_together(entries)? {
+            Some(more) => Ok(answers.extend_from_slice(&more)?),
+            None => self.add_each(entries, answers),
         }
     }
 
@@ -168,10 +165,14 @@ impl<'a, R: Net + Eprint + AllocGlobal> Asker<'a, R> {
     }
 
     /// Says that nothing can be replaced while these cues are live.
-    pub fn say_live(&self, cues: &[CueNo]) -> Result<(), Ending> {
-        let words = live_words(self.rt.alloc(), cues)?;
-        say(self.rt, words.as_str());
-        Ok(())
+    pub fn say_live(&self, cues: &[CueNo]) -> Ending {
+        match live_words(self.rt.alloc(), cues) {
+            Ok(words) => {
+                say(self.rt, words.as_str());
+                Ending::Refused
+            }
+            Err(_) => Ending::Failed,
+        }
     }
 
     /// Says that something was refused.

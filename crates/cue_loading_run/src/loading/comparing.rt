@@ -6,9 +6,8 @@ use cue_desk::replying::Status;
 use cue_files_run::open_store;
 use cue_loading::{Difference, differences};
 use cue_saying::say;
-use cue_show::{CueNo, Show};
-use cue_show_file::cue_text;
-use std::alloc::{AllocError, Global};
+use cue_show::{CueNo, DeviceNo, Show};
+use cue_show_file::{Subject, cue_text};
 use std::fs::{File, Files};
 use std::io::Eprint;
 use std::net::Net;
@@ -22,7 +21,7 @@ pub struct Compared<'a> {
     /// The show file.
     path: &'a str,
     /// The folder of the store.
-    dir: &'a str,
+    pub dir: &'a str,
     /// Whether the replies have said already which differ.
     is_told: bool,
 }
@@ -69,41 +68,62 @@ fn agrees(status: Status, state: &State) -> bool {
         && is_number(status.outcome, u32::from(outcome))
 }
 
-// The cues that are live in this state.
-fn cues_of(alloc: Global, state: &State) -> Result<Vec<CueNo>, AllocError> {
-    let mut cues = Vec::new(alloc);
-    for attempt in state.live().as_slice() {
-        cues.push(attempt.cue)?;
+// The show of this state, if it is the one of which the controller says this.
+fn show_of(state: &State, status: Status) -> Result<Option<Show>, Ending> {
+    if !agrees(status, state) {
+        return Ok(None);
     }
-    Ok(cues)
+    Ok(Some(state.show().try_clone()?))
+}
+
+// Puts the cues that are live in this state into a list, if it is the one of which the controller says this.
+fn push_live(cues: &mut Vec<CueNo>, state: &State, status: Status) -> Result<(), Ending> {
+    if !agrees(status, state) {
+        return Ok(());
+    }
+    for attempt in state.live().as_slice() {
+        if cues.push(attempt.cue).is_err() {
+            return Err(Ending::Failed);
+        }
+    }
+    Ok(())
+}
+
+// Says why a store cannot be read.
+fn unread<R: Eprint>(rt: &R, why: &str) -> Ending {
+    say(rt, why);
+    Ending::Failed
 }
 
 impl<'a, R: Files<File = File> + Net + Eprint + AllocGlobal> Asker<'a, R> {
     // The show of the store in this folder, if its state is the one of which the controller says this.
     fn look(&mut self, dir: &str, status: Status) -> Result<Option<Show>, Ending> {
         match open_store(self.rt(), dir) {
-            Ok(keeper) if agrees(status, keeper.state()) => {
-                Ok(Some(keeper.state().show().try_clone()?))
-            }
-            Ok(_) => Ok(None),
-            Err(why) => {
-                say(self.rt(), why.as_str());
-                Err(Ending::Failed)
-            }
+            Ok(keeper) => show_of(keeper.state(), status),
+            Err(why) => Err(unread(self.rt(), why.as_str())),
         }
     }
 
-    // The cues that are live in the store of this folder; none if that is not what the controller says.
-    fn live_cues(&mut self, dir: &str, status: Status) -> Result<Vec<CueNo>, Ending> {
+    // Puts the cues that are live in the store of this folder into a list; none if that is not what the controller
+    // says.
+    fn read_live(
+        &mut self,
+        cues: &mut Vec<CueNo>,
+        dir: &str,
+        status: Status,
+    ) -> Result<(), Ending> {
         match open_store(self.rt(), dir) {
-            Ok(keeper) if agrees(status, keeper.state()) => {
-                Ok(cues_of(self.alloc(), keeper.state())?)
-            }
-            Ok(_) => Ok(Vec::new(self.alloc())),
-            Err(why) => {
-                say(self.rt(), why.as_str());
-                Err(Ending::Failed)
-            }
+            Ok(keeper) => push_live(cues, keeper.state(), status),
+            Err(why) => Err(unread(self.rt(), why.as_str())),
+        }
+    }
+
+    // Says that nothing can be replaced while the cues are live that are so in the store of this folder.
+    fn refuse_live(&mut self, dir: &str, status: Status) -> Ending {
+        let mut cues = Vec::new(self.alloc());
+        match self.read_live(&mut cues, dir, status) {
+            Ok(()) => self.say_live(&cues),
+            Err(ending) => ending,
         }
     }
 
@@ -113,9 +133,7 @@ impl<'a, R: Files<File = File> + Net + Eprint + AllocGlobal> Asker<'a, R> {
         for _ in 0..MAX_LOOKS {
             let status = self.status()?;
             if at_rest && status.live != 0 {
-                let cues = self.live_cues(dir, status)?;
-                self.say_live(&cues)?;
-                return Err(Ending::Refused);
+                return Err(self.refuse_live(dir, status));
             }
             if let Some(show) = self.look(dir, status)? {
                 return Ok(show);
@@ -136,59 +154,51 @@ impl<'a, R: Files<File = File> + Net + Eprint + AllocGlobal> Asker<'a, R> {
     }
 }
 
-// Says of a cue that it is in the one and not in the other.
-fn say_cue<R: Eprint>(rt: &R, cue: CueNo, there: &str, not_there: &str) {
-    let cue = cue_text(&cue);
+// Says of a device or a cue that it is in the one and not in the other.
+fn say_missing<R: Eprint>(rt: &R, subject: Subject, there: &str, not_there: &str) {
     say(
         rt,
-        format_args!("cue {cue} is in {there} and not in {not_there}"),
+        format_args!("{subject} is in {there} and not in {not_there}"),
+    );
+}
+
+// Says that a device has another port than the file says.
+fn say_port<R: Eprint>(rt: &R, path: &str, device: DeviceNo, port: u16) {
+    let subject = Subject::Device(device);
+    say(
+        rt,
+        format_args!("{subject} has port {port} in the store, and another one in {path}"),
+    );
+}
+
+// Says where the stack has another order than the file.
+fn say_order<R: Eprint>(rt: &R, path: &str, cue: CueNo, other: CueNo) {
+    let (cue, other) = (cue_text(&cue), cue_text(&other));
+    say(
+        rt,
+        format_args!(
+            "the stack has another order than {path}: cue {cue} is where the file has cue {other}"
+        ),
     );
 }
 
 // Says one difference.
 fn say_difference<R: Eprint>(rt: &R, path: &str, difference: Difference) {
+    let store = "the store";
     match difference {
-        Difference::LeftDevice(device) => {
-            let device = device.number();
-            say(
-                rt,
-                format_args!("device {device} is in the store and not in {path}"),
-            );
-        }
-        Difference::MissingDevice(device) => {
-            let device = device.number();
-            say(
-                rt,
-                format_args!("device {device} is in {path} and not in the store"),
-            );
-        }
-        Difference::LeftCue(cue) => say_cue(rt, cue, "the store", path),
-        Difference::MissingCue(cue) => say_cue(rt, cue, path, "the store"),
-        Difference::OtherPort(device, port) => {
-            let device = device.number();
-            say(
-                rt,
-                format_args!(
-                    "device {device} has port {port} in the store, and another one in {path}"
-                ),
-            );
-        }
+        Difference::LeftDevice(device) => say_missing(rt, Subject::Device(device), store, path),
+        Difference::MissingDevice(device) => say_missing(rt, Subject::Device(device), path, store),
+        Difference::LeftCue(cue) => say_missing(rt, Subject::Cue(cue), store, path),
+        Difference::MissingCue(cue) => say_missing(rt, Subject::Cue(cue), path, store),
+        Difference::OtherPort(device, port) => say_port(rt, path, device, port),
         Difference::OtherParts(cue) => {
-            let cue = cue_text(&cue);
+            let subject = Subject::Cue(cue);
             say(
                 rt,
-                format_args!("cue {cue} has other parts in the store than in {path}"),
+                format_args!("{subject} has other parts in the store than in {path}"),
             );
         }
-        Difference::OtherOrder(cue, other) => {
-            let (cue, other) = (cue_text(&cue), cue_text(&other));
-            say(
-                rt,
-                format_args!(
-                    "the stack has another order than {path}: cue {cue} is where the file has cue {other}"
-                ),
-            );
-        }
+        Difference::OtherOrder(cue, other) => say_order(rt, path, cue, other),
         Difference::Otherwise => say(rt, format_args!("the store is not what {path} says")),
     }
 }
@@ -210,20 +220,9 @@ fn is_left(difference: Difference) -> bool {
     )
 }
 
-/// Says in what the store is not what the file says, and what to do; whether there is something.
-pub fn say_differences<R: Eprint + AllocGlobal>(
-    rt: &R,
-    compared: Compared<'_>,
-    file: &Show,
-    stored: &Show,
-) -> Result<bool, Ending> {
-    let found = differences(rt.alloc(), file, stored)?;
+// Says what to do about these differences.
+fn say_ways<R: Eprint>(rt: &R, compared: Compared<'_>, found: &[Difference]) {
     let Compared { path, dir, .. } = compared;
-    for difference in &found {
-        if !is_told(compared, *difference) {
-            say_difference(rt, path, *difference);
-        }
-    }
     if found.iter().any(|difference| !is_left(*difference)) {
         say(
             rt,
@@ -236,5 +235,21 @@ pub fn say_differences<R: Eprint + AllocGlobal>(
             format_args!("to take out what is not in the file:  cuedesk load {path} {dir} --exact"),
         );
     }
+}
+
+/// Says in what the store is not what the file says, and what to do; whether there is something.
+pub fn say_differences<R: Eprint + AllocGlobal>(
+    rt: &R,
+    compared: Compared<'_>,
+    file: &Show,
+    stored: &Show,
+) -> Result<bool, Ending> {
+    let found = differences(rt.alloc(), file, stored)?;
+    for difference in &found {
+        if !is_told(compared, *difference) {
+            say_difference(rt, compared.path, *difference);
+        }
+    }
+    say_ways(rt, compared, &found);
     Ok(!found.is_empty())
 }

@@ -6,7 +6,7 @@ use cue_desk::answered::Answered;
 use std::alloc::{AllocError, Global};
 
 /// What became of a device or of a cue.
-#[derive(Clone, Copy, Debug, PartialEq, Eq)]
+#[derive(Clone, Copy)]
 pub enum Became {
     New,
     /// It was there as it is to be; it may have been moved.
@@ -31,7 +31,7 @@ pub fn became_of(answered: Answered) -> Became
 }
 
 /// How many became what.
-#[derive(Clone, Copy, Debug, PartialEq, Eq)]
+#[derive(Clone, Copy)]
 pub struct Counts {
     added: usize,
     known: usize,
@@ -72,15 +72,15 @@ impl Counts {
     /// The line of what was added, if what was there stays.
     pub fn text(self, alloc: Global, what: &str) -> Result<String, AllocError> {
         let (added, known, refused) = (self.added, self.known, self.refused);
-        Ok(format!(in alloc; "{what}: {added} new, {known} known, {refused} refused\n")?)
+        format!(in alloc; "{what}: {added} new, {known} known, {refused} refused\n")
     }
 
     /// The line of what was put in the place of what was there.
     pub fn text_of_plan(self, alloc: Global, what: &str) -> Result<String, AllocError> {
         let (added, known) = (self.added, self.known);
         let (replaced, removed) = (self.replaced, self.removed);
-        Ok(format!(in alloc;
+        format!(in alloc;
             "{what}: {added} new, {known} known, {replaced} replaced, {removed} removed\n"
-        )?)
+        )
     }
 }

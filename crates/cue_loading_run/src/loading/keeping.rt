@@ -60,13 +60,12 @@ fn write_new<R: Files<File = File>>(rt: &R, path: &str, text: &str) -> io::Resul
         .write(true)
         .create_new(true)
         .open(rt, path)?;
-    match file.write_all(text.as_bytes()) {
-        Ok(()) => Ok(()),
-        Err(why) => {
-            let _ = fs::remove_file(rt, path);
-            Err(why)
-        }
+    let written = file.write_all(text.as_bytes());
+    if written.is_err() {
+        let _ = fs::remove_file(rt, path);
     }
+    drop(file);
+    written
 }
 
 // Whether the file is this text.
@@ -77,6 +76,40 @@ fn is_text<R: Files<File = File> + AllocGlobal>(rt: &R, path: &str, text: &str) 
     }
 }
 
+// Keeps the text in this file if that is not there, or has it already; whether it does.
+fn keep_in<R: Files<File = File> + AllocGlobal>(
+    rt: &R,
+    path: &str,
+    text: &str,
+) -> io::Result<bool> {
+    match write_new(rt, path, text) {
+        Ok(()) => Ok(true),
+        Err(why) if why.kind() != ErrorKind::AlreadyExists => Err(why),
+        Err(_) => Ok(is_text(rt, path, text)),
+    }
+}
+
+// Keeps the text in the file with this number, if it can be that one: its path.
+fn keep_at<R: Files<File = File> + AllocGlobal>(
+    rt: &R,
+    stem: &str,
+    number: u32,
+    text: &str,
+) -> io::Result<Option<String>> {
+    let path = kept_path(rt.alloc(), stem, number)?;
+    match keep_in(rt, path.as_str(), text) {
+        Ok(true) => Ok(Some(path)),
+        Ok(false) => {
+            drop(path);
+            Ok(None)
+        }
+        Err(why) => {
+            drop(path);
+            Err(why)
+        }
+    }
+}
+
 // Keeps the text in the first file that has it already, or that is not there. No file is written over.
 fn keep_text<R: Files<File = File> + AllocGlobal>(
     rt: &R,
@@ -84,12 +117,8 @@ fn keep_text<R: Files<File = File> + AllocGlobal>(
     text: &str,
 ) -> io::Result<Kept> {
     for number in 1..=MAX_KEPT {
-        let path = kept_path(rt.alloc(), stem, number)?;
-        match write_new(rt, path.as_str(), text) {
-            Ok(()) => return Ok(Kept::In(path)),
-            Err(why) if why.kind() != ErrorKind::AlreadyExists => return Err(why),
-            Err(_) if is_text(rt, path.as_str(), text) => return Ok(Kept::In(path)),
-            Err(_) => {}
+        if let Some(path) = keep_at(rt, stem, number, text)? {
+            return Ok(Kept::In(path));
         }
     }
     Ok(Kept::Full)
@@ -104,38 +133,63 @@ fn changes(manner: Manner, difference: &Difference) -> bool {
     }
 }
 
+// Whether a load of this manner changes something that the store has.
+fn changes_stored(
+    alloc: Global,
+    manner: Manner,
+    file: &Show,
+    stored: &Show,
+) -> Result<bool, AllocError> {
+    let found = differences(alloc, file, stored)?;
+    let is_empty = stored.devices().next().is_none() && stored.cues().next().is_none();
+    Ok(!is_empty && found.iter().any(|difference| changes(manner, difference)))
+}
+
 // What the store has, as a show file for the controller at this port.
-fn text_of(alloc: Global, stored: &Show, port: u16) -> Result<String, AllocError> {
+fn file_of(alloc: Global, stored: &Show, port: u16) -> Result<String, AllocError> {
     let mut file = of_show(alloc, stored)?;
     file.port = Some(port);
-    let text = written(alloc, &file)?;
+    let text = written(alloc, &file);
+    drop(file);
+    text
+}
+
+// The same, after a line that says what it is.
+fn text_of(alloc: Global, stored: &Show, port: u16) -> Result<String, AllocError> {
+    let text = file_of(alloc, stored, port)?;
     let text = text.as_str();
     format!(in alloc; "# What the store had before a load. `load --exact` takes it back.\n{text}")
 }
 
 impl<'a, R: Files<File = File> + Net + Eprint + AllocGlobal, W: Write> Loading<'a, R, W> {
-    // Says if it is kept, and how to take the load back.
-    fn tell_kept(&mut self, what: Loaded<'_>, dir: &str, kept: &Kept) -> Result<(), Ending> {
+    // Says what became of the keeping, and how to take the load back.
+    fn tell_kept(
+        &mut self,
+        what: Loaded<'_>,
+        dir: &str,
+        kept: &io::Result<Kept>,
+    ) -> Result<(), Ending> {
+        let beside = what.path;
         match kept {
-            Kept::In(path) => {
+            Ok(Kept::In(path)) => {
                 let path = path.as_str();
-                let text = format!(in self.asker.alloc();
+                return self.progress.print(format!(in self.asker.alloc();
                     "what the store had is in {path}; back: cuedesk load {path} {dir} --exact\n"
-                )?;
-                self.progress.print(text.as_str())
+                ));
             }
-            Kept::Full => {
-                let path = what.path;
-                say(
-                    self.asker.rt(),
-                    format_args!(
-                        "what the store had is NOT kept: {MAX_KEPT} such files stand beside {path}; \
-                         take old ones away"
-                    ),
-                );
-                Ok(())
-            }
+            Ok(Kept::Full) => say(
+                self.asker.rt(),
+                format_args!(
+                    "what the store had is NOT kept: {MAX_KEPT} such files stand beside {beside}; \
+                     take old ones away"
+                ),
+            ),
+            Err(why) => say(
+                self.asker.rt(),
+                format_args!("what the store had is NOT kept beside {beside}: {why}"),
+            ),
         }
+        Ok(())
     }
 
     /// Keeps what the store had, if the load changes it, and says how to take it back; of an empty store nothing is
@@ -148,26 +202,12 @@ impl<'a, R: Files<File = File> + Net + Eprint + AllocGlobal, W: Write> Loading<'
         stored: &Show,
     ) -> Result<(), Ending> {
         let alloc = self.asker.alloc();
-        let found = differences(alloc, file, stored)?;
-        let is_empty = stored.devices().next().is_none() && stored.cues().next().is_none();
-        if is_empty
-            || !found
-                .iter()
-                .any(|difference| changes(what.manner, difference))
-        {
+        if !changes_stored(alloc, what.manner, file, stored)? {
             return Ok(());
         }
         let text = text_of(alloc, stored, self.asker.port())?;
-        match keep_text(self.asker.rt(), stem_of(what.path), text.as_str()) {
-            Ok(kept) => self.tell_kept(what, dir, &kept),
-            Err(why) => {
-                let path = what.path;
-                say(
-                    self.asker.rt(),
-                    format_args!("what the store had is NOT kept beside {path}: {why}"),
-                );
-                Ok(())
-            }
-        }
+        let kept = keep_text(self.asker.rt(), stem_of(what.path), text.as_str());
+        drop(text);
+        self.tell_kept(what, dir, &kept)
     }
 }

@@ -29,10 +29,10 @@ impl<'a, W: Write> Progress<'a, W> {
         }
     }
 
-    // The line of the steps that are done.
-    fn text(&self) -> Result<String, AllocError> {
+    // Draws the line of the steps that are done.
+    fn draw(&mut self) -> Result<(), Ending> {
         let (done, all) = (self.done, self.all);
-        Ok(format!(in self.alloc; "\r{done} of {all}")?)
+        self.print(format!(in self.alloc; "\r{done} of {all}"))
     }
 
     /// So many steps are to be done in all.
@@ -45,8 +45,7 @@ impl<'a, W: Write> Progress<'a, W> {
         let before = self.done / STEPS;
         self.done = self.done.saturating_add(count);
         if self.tells && self.done / STEPS > before {
-            let text = self.text()?;
-            print(self.writer, text.as_str())?;
+            return self.draw();
         }
         Ok(())
     }
@@ -58,8 +57,9 @@ impl<'a, W: Write> Progress<'a, W> {
         }
     }
 
-    /// Prints a line that stays.
-    pub fn print(&mut self, line: &str) -> Result<(), Ending> {
-        print(self.writer, line)
+    /// Prints a line, if there was memory to make it.
+    pub fn print(&mut self, line: Result<String, AllocError>) -> Result<(), Ending> {
+        let line = line?;
+        print(self.writer, line.as_str())
     }
 }

@@ -123,10 +123,43 @@ impl<'a, R: Files<File = File> + Net + Eprint + AllocGlobal, W: Write> Loading<'
     fn tell(&mut self, devices: Counts, cues: Counts) -> Result<(), Ending> {
         self.progress.clear();
         let alloc = self.asker.alloc();
-        self.progress
-            .print(devices.text_of_plan(alloc, "devices")?.as_str())?;
-        self.progress
-            .print(cues.text_of_plan(alloc, "cues")?.as_str())
+        self.progress.print(devices.text_of_plan(alloc, "devices"))?;
+        self.progress.print(cues.text_of_plan(alloc, "cues"))
+    }
+
+    // Carries a plan out, and says what became of all. What the store had is kept before.
+    fn follow(
+        &mut self,
+        what: Loaded<'_>,
+        file: &Show,
+        dir: &str,
+        stored: &Show,
+        steps: &[Step],
+    ) -> Result<(), Ending> {
+        self.keep(what, dir, file, stored)?;
+        self.progress.expect_only(steps.len());
+        self.carry_all_out(steps, stored.place())?;
+        let is_exact = what.manner == Manner::IsExact;
+        let devices = count_devices(file, stored, is_exact);
+        self.tell(devices, count_cues(file, stored, is_exact))
+    }
+
+    // Plans how to make of what the store has what the file says, and does it.
+    fn replace_stored(
+        &mut self,
+        what: Loaded<'_>,
+        file: &Show,
+        dir: &str,
+        stored: &Show,
+    ) -> Result<(), Ending> {
+        let is_exact = what.manner == Manner::IsExact;
+        match plan(self.asker.alloc(), is_exact, file, stored)? {
+            Some(steps) => self.follow(what, file, dir, stored, &steps),
+            None => {
+                self.asker.say_full();
+                Err(Ending::Refused)
+            }
+        }
     }
 
     /// Puts the show of the file in the place of what differs from it in the store of this folder. What the file does
@@ -138,17 +171,7 @@ impl<'a, R: Files<File = File> + Net + Eprint + AllocGlobal, W: Write> Loading<'
         file: &Show,
         dir: &str,
     ) -> Result<(), Ending> {
-        let is_exact = what.manner == Manner::IsExact;
         let stored = self.asker.stored_at_rest(dir)?;
-        let alloc = self.asker.alloc();
-        let Some(steps) = plan(alloc, is_exact, file, &stored)? else {
-            self.asker.say_full();
-            return Err(Ending::Refused);
-        };
-        self.keep(what, dir, file, &stored)?;
-        self.progress.expect_only(steps.len());
-        self.carry_all_out(&steps, stored.place())?;
-        let devices = count_devices(file, &stored, is_exact);
-        self.tell(devices, count_cues(file, &stored, is_exact))
+        self.replace_stored(what, file, dir, &stored)
     }
 }

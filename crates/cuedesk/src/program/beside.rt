@@ -12,18 +12,23 @@ const MAX_LOG_LINES: usize = 3;
 /// The most bytes of the log that are read, from its end.
 const MAX_LOG_BYTES: u64 = 4_096;
 
+/// What a file has from its place on, as text, but no more than so many bytes.
+pub fn text_of(alloc: Global, file: File, most: u64) -> io::Result<String> {
+    let mut bytes = Vec::new(alloc);
+    file.take(most).read_to_end(&mut bytes)?;
+    Ok(String::from_utf8_lossy(alloc, &bytes)?)
+}
+
 // The end of a file, as text.
 fn end_of<R: Files<File = File> + AllocGlobal>(rt: &R, path: &str) -> io::Result<String> {
     let mut file = File::open(rt, path)?;
     let len = file.metadata()?.len();
     file.seek(SeekFrom::Start(len.saturating_sub(MAX_LOG_BYTES)))?;
-    let mut bytes = Vec::new(rt.alloc());
-    file.take(MAX_LOG_BYTES).read_to_end(&mut bytes)?;
-    Ok(String::from_utf8_lossy(rt.alloc(), &bytes)?)
+    text_of(rt.alloc(), file, MAX_LOG_BYTES)
 }
 
-// One line alone.
-fn only(alloc: Global, line: String) -> Result<Vec<String>, AllocError> {
+/// One line alone.
+pub fn only(alloc: Global, line: String) -> Result<Vec<String>, AllocError> {
     let mut lines = Vec::new(alloc);
     lines.push(line)?;
     Ok(lines)

@@ -4,7 +4,7 @@ ghost use Rattle.cuedesk.specs.Windows.{window_of};
 
 mod screen;
 
-use super::beside::{file_line, read_log, relay_line};
+use super::beside::{file_line, only, read_log, relay_line};
 use super::opening::open_desk;
 use super::renewing::{Begun, Renewed, begin};
 use cue_board::{Names, board_lines};
@@ -88,17 +88,25 @@ impl<'a, R: Files<File = File> + Net + Clock + AllocGlobal> Board<'a, R> {
         }
     }
 
-    // Looks at the show file. If memory is short, what is told of it stays.
+    // Looks at the show file, and shows it if it is new.
     fn renew(&mut self) -> io::Result<()> {
         let Some(renewed) = &mut self.renewed else {
             return Ok(());
         };
-        let is_live = !self.desk.view().live.is_empty();
-        if let Some(file) = renewed.look(self.rt, self.desk.now()?, is_live) {
-            drop(self.file.replace(file));
-            renewed.begin_to_tell(self.desk.now()?);
+        let fresh = renewed.fresh(self.rt, &self.desk)?;
+        if fresh.is_some() {
+            self.file = fresh;
         }
-        if let Ok(told) = renewed.told(self.rt.alloc(), self.desk.now()?) {
+        self.tell()
+    }
+
+    // Tells of the show file. If memory is short, what is told of it stays.
+    fn tell(&mut self) -> io::Result<()> {
+        let Some(renewed) = &self.renewed else {
+            return Ok(());
+        };
+        let now = self.desk.now()?;
+        if let Ok(told) = renewed.told(self.rt.alloc(), now) {
             self.told = told;
         }
         Ok(())
@@ -107,22 +115,28 @@ impl<'a, R: Files<File = File> + Net + Clock + AllocGlobal> Board<'a, R> {
     // The lines after those of the view: what is told of the show file, and the log.
     fn other_lines(&self) -> Result<Vec<String>, AllocError> {
         let mut lines = file_line(self.rt.alloc(), self.told.as_deref())?;
-        for line in self.log_lines()? {
-            lines.push(line)?;
-        }
+        lines.append(&mut self.log_lines()?)?;
+        Ok(lines)
+    }
+
+    // The lines of the newest view, in the room that these others leave, and after them the others.
+    fn lines_before(&self, others: &mut Vec<String>) -> Result<Vec<String>, AllocError> {
+        let names = names_of(self.file.as_ref(), self.desk.together(), self.port);
+        let room = match self.rows {
+            Some(rows) => Some(room_in(rows, others.len())),
+            None => None,
+        };
+        let mut lines = board_lines(self.rt.alloc(), self.desk.view(), &names, room)?;
+        lines.append(others)?;
         Ok(lines)
     }
 
     // The lines of the newest view, and after them the others.
     fn lines(&self) -> Result<Vec<String>, AllocError> {
-        let names = names_of(self.file.as_ref(), self.desk.together(), self.port);
-        let others = self.other_lines()?;
-        let room = self.rows.map(|rows| room_in(rows, others.len()));
-        let mut lines = board_lines(self.rt.alloc(), self.desk.view(), &names, room)?;
-        for line in others {
-            lines.push(line)?;
-        }
-        Ok(lines)
+        let mut others = self.other_lines()?;
+        let lines = self.lines_before(&mut others);
+        drop(others);
+        lines
     }
 
     // Why there is nothing of a relay that is watched, if that is so.
@@ -133,19 +147,23 @@ impl<'a, R: Files<File = File> + Net + Clock + AllocGlobal> Board<'a, R> {
         }
     }
 
-    // The lines of a board that is printed once, with what only a second or five of looking would show: that there is
-    // nothing of a relay, and that serve says otherwise than the files, as it may while a change is under way.
-    fn all_lines(&self) -> Result<Vec<String>, AllocError> {
+    // That serve says otherwise than the files, as it may while a change is under way, if that is so.
+    fn differing_lines(&self) -> Result<Vec<String>, AllocError> {
         let (alloc, port) = (self.rt.alloc(), self.port);
+        if !self.desk.differs() {
+            return Ok(Vec::new(alloc));
+        }
+        let line = format!(in alloc;
+            "?      serve at port {port} says otherwise: a change is under way, or it has other files"
+        )?;
+        only(alloc, line)
+    }
+
+    // The lines of a board that is printed once, with what only a second or five of looking would show.
+    fn all_lines(&self) -> Result<Vec<String>, AllocError> {
         let mut lines = self.lines()?;
-        for line in self.relay_lines()? {
-            lines.push(line)?;
-        }
-        if self.desk.differs() {
-            lines.push(format!(in alloc;
-                "?      serve at port {port} says otherwise: a change is under way, or it has other files"
-            )?)?;
-        }
+        lines.append(&mut self.relay_lines()?)?;
+        lines.append(&mut self.differing_lines()?)?;
         Ok(lines)
     }
 }
@@ -198,6 +216,14 @@ fn print_once<R: Files<File = File> + Net + Clock + Eprint + AllocGlobal, W: Wri
     print(writer, joined(board.rt.alloc(), &lines)?.as_str())
 }
 
+// Hears what is there at first, after which a picture is due.
+fn first_round<R: Files<File = File> + Net + Clock + AllocGlobal>(
+    desk: &mut Desk<'_, R>,
+) -> io::Result<bool> {
+    hear_all(desk, FIRST)?;
+    Ok(true)
+}
+
 // Hears what is there; answers whether a picture is due.
 fn round<R: Files<File = File> + Net + Clock + AllocGlobal>(
     board: &mut Board<'_, R>,
@@ -236,19 +262,31 @@ fn show_round<R: Files<File = File> + Net + Clock + Eprint + AllocGlobal, W: Wri
     Ok(())
 }
 
+// Draws the first picture, and goes on round by round.
+fn show_rounds<R: Files<File = File> + Net + Clock + Eprint + AllocGlobal, W: Write>(
+    board: &mut Board<'_, R>,
+    screen: &mut Screen,
+    writer: &mut W,
+) -> Result<(), Ending> {
+    let mut pictures = Beat::of(PICTURE);
+    let is_due = first_round(&mut board.desk);
+    show_round(board, screen, is_due, writer)?;
+    for _ in 0..u64::MAX {
+        let is_due = round(board, &mut pictures);
+        show_round(board, screen, is_due, writer)?;
+    }
+    Ok(())
+}
+
 // The board until the terminal or a signal ends it.
 fn show_on<R: Files<File = File> + Net + Clock + Eprint + AllocGlobal, W: Write>(
     board: &mut Board<'_, R>,
     writer: &mut W,
 ) -> Result<(), Ending> {
     let mut screen = Screen::new(board.rt.alloc());
-    let mut pictures = Beat::of(PICTURE);
-    let mut is_due = hear_all(&mut board.desk, FIRST).map(|()| true);
-    for _ in 0..u64::MAX {
-        show_round(board, &mut screen, is_due, writer)?;
-        is_due = round(board, &mut pictures);
-    }
-    Ok(())
+    let shown = show_rounds(board, &mut screen, writer);
+    drop(screen);
+    shown
 }
 
 // The board of a desk that begins with this show file, where these cues stand by together.

@@ -1,36 +1,23 @@
 //! The word of the lock of a page, as the command line has it or a file.
+use super::beside::text_of;
 use cue_desk::ending::Ending;
 use cue_desk_line::{LockWord, PageUse};
 use cue_request::lock::is_word;
 use cue_saying::say;
-use std::alloc::Global;
 use std::fs::{File, Files};
-use std::io::{self, Eprint, Read};
+use std::io::{self, Eprint};
 
 /// The most bytes that are read of the file with the word.
 const MAX_BYTES: u64 = 4_096;
 
 // The front of a file.
 fn front_of<R: Files<File = File> + AllocGlobal>(rt: &R, path: &str) -> io::Result<String> {
-    let file = File::open(rt, path)?;
-    let mut bytes = Vec::new(rt.alloc());
-    file.take(MAX_BYTES).read_to_end(&mut bytes)?;
-    Ok(String::from_utf8_lossy(rt.alloc(), &bytes)?)
+    text_of(rt.alloc(), File::open(rt, path)?, MAX_BYTES)
 }
 
-// The word in the first line of this file; else why there is none is said.
-fn word_in<R: Files<File = File> + Eprint + AllocGlobal>(
-    rt: &R,
-    path: &str,
-) -> Result<String, Ending> {
-    let text = match front_of(rt, path) {
-        Ok(text) => text,
-        Err(why) => {
-            say(rt, format_args!("{path}: {why}"));
-            return Err(Ending::Failed);
-        }
-    };
-    let word = text.as_str().lines().next().unwrap_or("");
+// The word in the first line of a text, which is that of this file; else why there is none is said.
+fn first_word<R: Eprint + AllocGlobal>(rt: &R, path: &str, text: &str) -> Result<String, Ending> {
+    let word = text.lines().next().unwrap_or("");
     if is_word(word.as_bytes()) {
         return Ok(String::from_str(rt.alloc(), word)?);
     }
@@ -42,6 +29,20 @@ fn word_in<R: Files<File = File> + Eprint + AllocGlobal>(
         ),
     );
     Err(Ending::Refused)
+}
+
+// The word in the first line of this file; else why there is none is said.
+fn word_in<R: Files<File = File> + Eprint + AllocGlobal>(
+    rt: &R,
+    path: &str,
+) -> Result<String, Ending> {
+    match front_of(rt, path) {
+        Ok(text) => first_word(rt, path, text.as_str()),
+        Err(why) => {
+            say(rt, format_args!("{path}: {why}"));
+            Err(Ending::Failed)
+        }
+    }
 }
 
 /// The word of the lock of a page, if it has one; else why it cannot be had is said.

@@ -26,9 +26,10 @@ fn ended_words(outcome: i32) -> &'static str {
     }
 }
 
-// What a status says, a line for each fact.
-fn status_text(alloc: Global, status: Status) -> Result<String, AllocError> {
-    let mut text = format!(in alloc;
+// Adds what a status says, a line for each fact.
+fn push_status(text: &mut String, status: Status) -> Result<(), AllocError> {
+    write!(
+        text,
         "last attempt {}\nlive {}\nplace ",
         status.last, status.live
     )?;
@@ -37,7 +38,13 @@ fn status_text(alloc: Global, status: Status) -> Result<String, AllocError> {
         None => text.push_str("-\n")?,
     }
     let words = ended_words(status.outcome);
-    write!(text, "ended {}, {words}\n", status.ended)?;
+    write!(text, "ended {}, {words}\n", status.ended)
+}
+
+// What a status says, a line for each fact.
+fn status_text(alloc: Global, status: Status) -> Result<String, AllocError> {
+    let mut text = String::new(alloc);
+    push_status(&mut text, status)?;
     Ok(text)
 }
 

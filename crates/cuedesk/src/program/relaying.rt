@@ -7,18 +7,19 @@ use cue_relay::{Address, Relay, RelayFault, Route, run};
 use cue_relay_run::{NetSource, NetWire, Reporter, Sides, bind};
 use cue_saying::{print, say};
 use cue_show_file::{ShowFile, routes, shared_port};
+use mio::net::UdpSocket;
 use std::fs::{File, Files};
 use std::io::{Eprint, Write};
 use std::net::{Ipv4Addr, Net};
 use std::time::Clock;
 
-// Where this machine is on the stage's network, and the routes; else what the file lacks is on standard error.
-fn plan<R: Eprint + AllocGlobal>(
+// Where this machine is on the stage's network; else what the file with these routes lacks is on standard error.
+fn stage_of<R: Eprint>(
     rt: &R,
     path: &str,
     file: &ShowFile,
-) -> Result<(u32, Vec<Route>), Ending> {
-    let routes = routes(rt.alloc(), &file.devices)?;
+    routes: &[Route],
+) -> Result<u32, Ending> {
     if routes.is_empty() {
         say(
             rt,
@@ -26,7 +27,7 @@ fn plan<R: Eprint + AllocGlobal>(
         );
         return Err(Ending::Refused);
     }
-    if let Some(port) = shared_port(&routes) {
+    if let Some(port) = shared_port(routes) {
         say(
             rt,
             format_args!(
@@ -36,7 +37,7 @@ fn plan<R: Eprint + AllocGlobal>(
         return Err(Ending::Refused);
     }
     match file.listen {
-        Some(listen) => Ok((listen, routes)),
+        Some(listen) => Ok(listen),
         None => {
             say(
                 rt,
@@ -47,6 +48,17 @@ fn plan<R: Eprint + AllocGlobal>(
             Err(Ending::Refused)
         }
     }
+}
+
+// Where this machine is on the stage's network, and the routes; else what the file lacks is on standard error.
+fn plan<R: Eprint + AllocGlobal>(
+    rt: &R,
+    path: &str,
+    file: &ShowFile,
+) -> Result<(u32, Vec<Route>), Ending> {
+    let routes = routes(rt.alloc(), &file.devices)?;
+    let stage = stage_of(rt, path, file, &routes)?;
+    Ok((stage, routes))
 }
 
 // What the relay stands between, in words.
@@ -102,6 +114,23 @@ fn relay_from<R: Files<File = File> + Net + Clock + Eprint + AllocGlobal, W: Wri
     Err(Ending::Failed)
 }
 
+// Relays at these sockets, until a signal ends it.
+fn relay_at<R: Files<File = File> + Net + Clock + Eprint + AllocGlobal, W: Write>(
+    rt: &R,
+    at: (Sides, &[Route]),
+    sockets: &mut [UdpSocket],
+    status: Option<&str>,
+    writer: &mut W,
+) -> Result<(), Ending> {
+    let Ok(mut source) = NetSource::new(rt, rt, sockets) else {
+        say(rt, "the sockets cannot be waited at");
+        return Err(Ending::Failed);
+    };
+    let relayed = relay_from(rt, at, &mut source, status, writer);
+    drop(source);
+    relayed
+}
+
 /// The command `relay`: until a signal ends it.
 pub fn relay_devices<R: Files<File = File> + Net + Clock + Eprint + AllocGlobal, W: Write>(
     rt: &R,
@@ -119,11 +148,8 @@ pub fn relay_devices<R: Files<File = File> + Net + Clock + Eprint + AllocGlobal,
     let controller = Address { host, port };
     let sides = Sides { controller, stage };
     let mut sockets = bind(rt, sides, &routes)?;
-    let Ok(mut source) = NetSource::new(rt, rt, &mut sockets) else {
-        say(rt, "the sockets cannot be waited at");
-        return Err(Ending::Failed);
-    };
-    let relayed = relay_from(rt, (sides, &routes), &mut source, status, writer);
-    drop(source);
+    let relayed = relay_at(rt, (sides, &routes), &mut sockets, status, writer);
+    drop(sockets);
+    drop(routes);
     relayed
 }

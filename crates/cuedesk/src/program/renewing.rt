@@ -2,8 +2,8 @@
 use super::port_of;
 use cue_desk::ending::Ending;
 use cue_desk::stamps::Stamp;
-use cue_desk_run::{Beat, wall_time};
-use cue_file_news::{Due, Kept, Look, Looks, News, Reading, Trouble, later_of, told_words};
+use cue_desk_run::{Beat, Desk, wall_time};
+use cue_file_news::{Due, Kept, Later, Look, Looks, News, Reading, Trouble, later_of, told_words};
 use cue_files_run::read_file;
 use cue_show_file::{
     Checked, Draft, Finding, Group, ShowFile, check, condensed, groups_of, read, routes,
@@ -11,6 +11,7 @@ use cue_show_file::{
 use std::alloc::{AllocError, Global};
 use std::fs::{self, File, Files};
 use std::io::{self, Eprint, ErrorKind};
+use std::net::Net;
 use std::time::Clock;
 
 /// How many milliseconds lie between two looks.
@@ -83,27 +84,35 @@ fn judged(
     })
 }
 
-// The show file that a text is; else the line of its first mistake, if it has one.
-fn file_in(alloc: Global, text: &str) -> Result<Result<ShowFile, Option<usize>>, AllocError> {
-    let Draft {
-        file,
-        findings,
-        table,
-        ..
-    } = read(alloc, text)?;
-    drop(table);
-    match judged(alloc, &file, findings)? {
-        Ok(()) => Ok(Ok(file)),
-        Err(line) => Ok(Err(line)),
-    }
-}
-
 /// What a desk begins with: its show file, if it has one, and the port of the controller.
 #[derive(Drop)]
 pub struct Begun<'a> {
     pub file: Option<ShowFile>,
     pub renewed: Option<Renewed<'a>>,
     pub port: u16,
+}
+
+// What a desk begins with that has this show file, and the cues that are stood by together.
+fn begin_with<'a>(
+    alloc: Global,
+    file: ShowFile,
+    mut renewed: Renewed<'a>,
+) -> Result<(Begun<'a>, Vec<Group>), Ending> {
+    match renewed.keep(alloc, &file) {
+        Ok(together) => {
+            let begun = Begun {
+                port: renewed.kept.port,
+                file: Some(file),
+                renewed: Some(renewed),
+            };
+            Ok((begun, together))
+        }
+        Err(AllocError) => {
+            drop(renewed);
+            drop(file);
+            Err(Ending::Failed)
+        }
+    }
 }
 
 /// Reads the show file of a desk that begins, if it has one; else each mistake is on standard error. `said` is the port
@@ -123,13 +132,20 @@ pub fn begin<'a, R: Files<File = File> + Eprint + AllocGlobal>(
     };
     // The text first: what is written between the two readings is found to be new then.
     let text = text_at(rt, path).unwrap_or(String::new(rt.alloc()));
-    let file = read_file(rt, path)?;
-    let together = groups_of(rt.alloc(), &file)?;
-    let kept = kept_of(rt.alloc(), &file, said)?;
-    let begun = Begun {
-        port: kept.port,
-        file: Some(file),
-        renewed: Some(Renewed {
+    let renewed = Renewed::new(rt.alloc(), path, said, text);
+    match read_file(rt, path) {
+        Ok(file) => begin_with(rt.alloc(), file, renewed),
+        Err(ending) => {
+            drop(renewed);
+            Err(ending)
+        }
+    }
+}
+
+impl<'a> Renewed<'a> {
+    // The show file at this path, of which this text was read and nothing else is known.
+    fn new(alloc: Global, path: &'a str, said: Option<u16>, text: String) -> Renewed<'a> {
+        Renewed {
             path,
             said,
             looks: Looks::new(),
@@ -137,13 +153,69 @@ pub fn begin<'a, R: Files<File = File> + Eprint + AllocGlobal>(
             text,
             news: News::Old,
             trouble: None,
-            kept,
-        }),
-    };
-    Ok((begun, together))
-}
+            kept: Kept {
+                port: port_of(said, None),
+                listen: None,
+                routes: Vec::new(alloc),
+            },
+        }
+    }
 
-impl Renewed<'_> {
+    // Keeps what stays of the file of the start: the cues that are stood by together.
+    fn keep(&mut self, alloc: Global, file: &ShowFile) -> Result<Vec<Group>, AllocError> {
+        self.kept = kept_of(alloc, file, self.said)?;
+        groups_of(alloc, file)
+    }
+
+    // What of this file counts only from the next start.
+    fn later(&self, alloc: Global, file: &ShowFile) -> Result<Later, AllocError> {
+        let kept = kept_of(alloc, file, self.said)?;
+        Ok(later_of(&self.kept, &kept))
+    }
+
+    // Judges a new file, in which this was found when it was read at this moment: whether it has no mistake.
+    fn judge(
+        &mut self,
+        alloc: Global,
+        file: &ShowFile,
+        found: Vec<Finding>,
+        now: u64,
+    ) -> Result<bool, AllocError> {
+        let judged = judged(alloc, file, found)?;
+        self.news = match judged {
+            Ok(()) => News::Read(now, self.later(alloc, file)?),
+            Err(line) => News::Wrong(line),
+        };
+        Ok(judged.is_ok())
+    }
+
+    // The file that a new text is, which was read at this moment, if it has no mistake.
+    fn file_in(
+        &mut self,
+        alloc: Global,
+        text: &str,
+        now: u64,
+    ) -> Result<Option<ShowFile>, AllocError> {
+        let Draft {
+            file,
+            findings,
+            table,
+            ..
+        } = read(alloc, text)?;
+        drop(table);
+        match self.judge(alloc, &file, findings, now) {
+            Ok(true) => Ok(Some(file)),
+            Ok(false) => {
+                drop(file);
+                Ok(None)
+            }
+            Err(why) => {
+                drop(file);
+                Err(why)
+            }
+        }
+    }
+
     // Takes a text that was read at this moment: the file that it is, if that is new and has no mistake.
     fn take(
         &mut self,
@@ -154,13 +226,11 @@ impl Renewed<'_> {
         if text == self.text {
             return Ok(None);
         }
-        let found = file_in(alloc, text.as_str())?;
-        self.news = match &found {
-            Ok(file) => News::Read(now, later_of(&self.kept, &kept_of(alloc, file, self.said)?)),
-            Err(line) => News::Wrong(*line),
-        };
-        self.text = text;
-        Ok(found.ok())
+        let taken = self.file_in(alloc, text.as_str(), now);
+        if taken.is_ok() {
+            self.text = text;
+        }
+        taken
     }
 
     // Reads the file, of which the system said this. If memory ran out it is read again after the next look.
@@ -185,9 +255,9 @@ impl Renewed<'_> {
         }
     }
 
-    /// Looks at the file, if a look is due: the new one, if it has changed and has no mistake. `now` is this moment in
-    /// milliseconds, by the clock of the desk. While an attempt is live the file is not read.
-    pub fn look<R: Files<File = File> + Clock + AllocGlobal>(
+    // Looks at the file, if a look is due: the new one, if it has changed and has no mistake. While an attempt is live
+    // the file is not read.
+    fn look<R: Files<File = File> + Clock + AllocGlobal>(
         &mut self,
         rt: &R,
         now: u64,
@@ -208,14 +278,38 @@ impl Renewed<'_> {
         None
     }
 
-    /// The file that was read is shown from this moment on: to read it took a while, if it is large.
-    pub fn begin_to_tell(&mut self, now: u64) {
+    // The file that was read is shown from this moment on: to read it took a while, if it is large.
+    fn begin_to_tell(&mut self, now: u64) {
         if let News::Read(_, later) = self.news {
             self.news = News::Read(now, later);
         }
     }
 
-    /// What is told of the file now.
+    /// Looks at the file for a desk, if a look is due: the new one, if it has changed and has no mistake. While an
+    /// attempt is live the file is not read.
+    pub fn fresh<R: Files<File = File> + Net + Clock + AllocGlobal>(
+        &mut self,
+        rt: &R,
+        desk: &Desk<'_, R>,
+    ) -> io::Result<Option<ShowFile>> {
+        let is_live = !desk.view().live.is_empty();
+        let file = self.look(rt, desk.now()?, is_live);
+        if file.is_none() {
+            return Ok(None);
+        }
+        match desk.now() {
+            Ok(now) => {
+                self.begin_to_tell(now);
+                Ok(file)
+            }
+            Err(why) => {
+                drop(file);
+                Err(why)
+            }
+        }
+    }
+
+    /// What is told of the file at this moment, in milliseconds by the clock of the desk.
     pub fn told(&self, alloc: Global, now: u64) -> Result<Option<String>, AllocError> {
         told_words(alloc, self.trouble, self.news, now)
     }

@@ -29,6 +29,19 @@ fn unread<R: Eprint>(rt: &R, path: &str, why: &io::Error) -> Ending {
     Ending::Failed
 }
 
+// Hears a log to its end, as many bytes at once as there is room for.
+fn hear_all(file: &mut File, room: &mut [u8], evening: &mut Evening) -> io::Result<()> {
+    for _ in 0..u64::MAX {
+        let count = file.read(room)?;
+        if count == 0 {
+            break;
+        }
+        evening.hear(&room[..count])?;
+    }
+    evening.finish()?;
+    Ok(())
+}
+
 // Hears a log to its end.
 fn hear<R: Files<File = File> + AllocGlobal>(
     rt: &R,
@@ -36,21 +49,16 @@ fn hear<R: Files<File = File> + AllocGlobal>(
     evening: &mut Evening,
 ) -> io::Result<()> {
     let mut file = File::open(rt, path)?;
-    let mut piece = vec![in rt.alloc(); 0u8; PIECE]?;
-    for _ in 0..u64::MAX {
-        let count = file.read(&mut piece)?;
-        if count == 0 {
-            break;
-        }
-        evening.hear(&piece[..count])?;
-    }
-    evening.finish()?;
-    Ok(())
+    let mut room = vec![in rt.alloc(); 0u8; PIECE]?;
+    let heard = hear_all(&mut file, &mut room, evening);
+    drop(room);
+    drop(file);
+    heard
 }
 
-// Puts bytes out.
-fn put<W: Write>(writer: &mut W, bytes: &[u8]) -> Result<(), Ending> {
-    match writer.write_all(bytes) {
+// Puts a piece of the report out.
+fn put<W: Write>(writer: &mut W, piece: String) -> Result<(), Ending> {
+    match writer.write_all(piece.as_bytes()) {
         Ok(()) => Ok(()),
         Err(_) => Err(Ending::Unwritten),
     }
@@ -71,12 +79,14 @@ fn put_text<R: AllocGlobal, W: Write>(
     names: &Names<'_>,
     writer: &mut W,
 ) -> Result<(), Ending> {
-    put(writer, text::head(rt.alloc(), evening, names)?.as_bytes())?;
+    put(writer, text::head(rt.alloc(), evening, names)?)?;
     for attempt in evening.attempts.iter() {
-        let piece = text::attempt_text(rt.alloc(), evening, names, attempt)?;
-        put(writer, piece.as_bytes())?;
+        put(
+            writer,
+            text::attempt_text(rt.alloc(), evening, names, attempt)?,
+        )?;
     }
-    put(writer, text::foot(rt.alloc(), evening, names)?.as_bytes())?;
+    put(writer, text::foot(rt.alloc(), evening, names)?)?;
     flush(writer)
 }
 
@@ -87,12 +97,14 @@ fn put_page<R: AllocGlobal, W: Write>(
     names: &Names<'_>,
     writer: &mut W,
 ) -> Result<(), Ending> {
-    put(writer, html::head(rt.alloc(), evening, names)?.as_bytes())?;
+    put(writer, html::head(rt.alloc(), evening, names)?)?;
     for attempt in evening.attempts.iter() {
-        let piece = html::attempt_page(rt.alloc(), evening, names, attempt)?;
-        put(writer, piece.as_bytes())?;
+        put(
+            writer,
+            html::attempt_page(rt.alloc(), evening, names, attempt)?,
+        )?;
     }
-    put(writer, html::foot(rt.alloc(), evening, names)?.as_bytes())?;
+    put(writer, html::foot(rt.alloc(), evening, names)?)?;
     flush(writer)
 }
 

@@ -43,17 +43,24 @@ fn draw_token<R: RandomSource + Eprint + AllocGlobal>(rt: &R) -> Result<String, 
 }
 
 impl<R: Files<File = File> + Net + Clock + Eprint + AllocGlobal> Server<'_, R> {
-    // Looks at the show file. If memory is short, what is told of it stays.
+    // Looks at the show file, and shows it if it is new.
     fn renew(&mut self) -> io::Result<()> {
         let Some(renewed) = &mut self.renewed else {
             return Ok(());
         };
-        let is_live = !self.desk.view().live.is_empty();
-        if let Some(file) = renewed.look(self.rt, self.desk.now()?, is_live) {
+        if let Some(file) = renewed.fresh(self.rt, &self.desk)? {
             self.pages.put_file(file);
-            renewed.begin_to_tell(self.desk.now()?);
         }
-        if let Ok(told) = renewed.told(self.rt.alloc(), self.desk.now()?) {
+        self.tell()
+    }
+
+    // Tells of the show file. If memory is short, what is told of it stays.
+    fn tell(&mut self) -> io::Result<()> {
+        let Some(renewed) = &self.renewed else {
+            return Ok(());
+        };
+        let now = self.desk.now()?;
+        if let Ok(told) = renewed.told(self.rt.alloc(), now) {
             self.pages.tell(told);
         }
         Ok(())

@@ -44,9 +44,10 @@ impl Screen {
 
     // Whether the line stands there already.
     fn has(&self, row: usize, line: &str) -> bool {
-        self.shown
-            .get(row)
-            .is_some_and(|shown| shown.as_str() == line)
+        match self.shown.get(row) {
+            Some(shown) => shown.as_str() == line,
+            None => false,
+        }
     }
 
     // Draws the lines that are not there yet; all of them if the picture is whole.
@@ -64,18 +65,32 @@ impl Screen {
         Ok(())
     }
 
-    /// What a terminal is to be given so that it shows these lines, with the cursor after the last one.
-    pub fn picture(&mut self, alloc: Global, lines: Vec<String>) -> Result<String, AllocError> {
+    // Draws these lines, with the cursor after the last one.
+    fn push_picture(&self, text: &mut String, lines: &[String]) -> Result<(), AllocError> {
         let is_whole = self.pictures == 0;
-        let mut text = String::from_str(alloc, CUT)?;
+        text.push_str(CUT)?;
         if is_whole {
             text.push_str("\x1b[H\x1b[J")?;
         }
-        self.push_lines(&mut text, &lines, is_whole)?;
-        push_empty(&mut text, lines.len(), self.shown.len())?;
-        write!(text, "{UNCUT}\x1b[{};1H", lines.len().saturating_add(1))?;
-        self.shown = lines;
-        self.pictures = self.pictures.saturating_add(1) % WHOLE;
-        Ok(text)
+        self.push_lines(text, lines, is_whole)?;
+        push_empty(text, lines.len(), self.shown.len())?;
+        write!(text, "{UNCUT}\x1b[{};1H", lines.len().saturating_add(1))
+    }
+
+    /// What a terminal is to be given so that it shows these lines, with the cursor after the last one.
+    pub fn picture(&mut self, alloc: Global, lines: Vec<String>) -> Result<String, AllocError> {
+        let mut text = String::new(alloc);
+        match self.push_picture(&mut text, &lines) {
+            Ok(()) => {
+                self.shown = lines;
+                self.pictures = self.pictures.saturating_add(1) % WHOLE;
+                Ok(text)
+            }
+            Err(why) => {
+                drop(lines);
+                drop(text);
+                Err(why)
+            }
+        }
     }
 }

@@ -73,7 +73,9 @@ def first_evening(evening):
     types, port = evening.types, evening.at.port
 
     def log():
-        return (evening.at.folder / "evening.log").read_text()
+        """What serve has written; nothing yet if its window has not begun."""
+        file = evening.at.folder / "evening.log"
+        return file.read_text() if file.exists() else ""
 
     check(f"{PAGE}: a store is formed", types(begin) == ("formed\n", 0))
     check("the show file has no mistake", types(look) == ("no mistake: 12 devices, 20 cues\n", 0))

@@ -88,7 +88,7 @@ class Serve:
     def errors(self):
         return Path(self.said.name).read_text(errors="replace")
 
-    def ready(self, seconds=20.0):
+    def ready(self, seconds=60.0):
         """Waits until it listens; whether it does."""
         end = time.monotonic() + seconds
         while self.child.poll() is None and time.monotonic() < end:

@@ -30,4 +30,4 @@ pub use fault::{Fault, WriteFault};
 pub use limits::{BUNDLE_HEAD, MAX_DEPTH, MAX_LEN};
 pub use packet::{Arg, Args, Message, Packet};
 pub use reading::read;
-pub use writing::write;
+pub use writing::{write, write_message};

@@ -1,8 +1,9 @@
 //! Writing a packet: its one spelling, each message with its type tag string.
 
 ghost use Rattle.std.specs.Prelude.{◌≡◌, ◌<◌, ◌≤◌, ◌++◌, ◌↔◌, map, length, IfOk, OnOk, Ok};
-ghost use Rattle.cue_osc.specs.Content.{view, contents_of};
-ghost use Rattle.cue_osc.specs.Spelling.{Spells};
+ghost use Rattle.cue_osc.specs.Argument.{arg_view};
+ghost use Rattle.cue_osc.specs.Content.{view, contents_of, message};
+ghost use Rattle.cue_osc.specs.Spelling.{Spells, message_text};
 ghost use Rattle.cue_osc.specs.Reading.{datagram_at};
 ghost use Rattle.cue_osc.specs.Plain.{IsPlain};
 ghost use Rattle.cue_osc.specs.Writing.{text_of, elements_text, IsInRange, AllInRange};
@@ -13,9 +14,9 @@ mod length;
 
 use crate::fault::WriteFault;
 use crate::limits::{BUNDLE_HEAD, MAX_LEN};
-use crate::packet::Packet;
+use crate::packet::{Arg, Packet};
 use fields::put_message;
-use length::room_after;
+use length::{room_after, room_after_message};
 use std::alloc::{AllocError, Global};
 
 /// The bytes of a packet: its one spelling, each message with its type tag string, also an empty
@@ -34,6 +35,26 @@ pub fn write(alloc: Global, packet: &Packet<'_>) -> Result<Vec<u8>, WriteFault>
     };
     let mut out = Vec::with_capacity(alloc, MAX_LEN - left)?;
     put(&mut out, packet)?;
+    Ok(out)
+}
+
+/// The bytes of a message, as `write` gives them of a packet that is this message: whoever has its arguments in a row
+/// needs no packet. `TooLong` comes if they are more than 4,096, before anything is allocated; else one allocation is
+/// made.
+pub fn write_message(alloc: Global, address: &[u8], args: &[Arg<'_>]) -> Result<Vec<u8>, WriteFault>
+    requires { IsPlain 8 (message address.now (map arg_view args.now)) }
+    ensures written { IfOk result (λ v. v.items ≡ message_text address.now (map arg_view args.now)) }
+    // What was written is a datagram of this message, and is read again as the same.
+    ensures spells { IfOk result (λ v. Spells v.items (message address.now (map arg_view args.now))) }
+    ensures again { IfOk result (λ v. datagram_at v.items ≡ Ok (message address.now (map arg_view args.now))) }
+    ensures too_long { (result ≡ Err WriteFault.TooLong)
+        ↔ (MAX_LEN < length (message_text address.now (map arg_view args.now))) }
+{
+    let Some(left) = room_after_message(address, args, MAX_LEN) else {
+        return Err(WriteFault::TooLong);
+    };
+    let mut out = Vec::with_capacity(alloc, MAX_LEN - left)?;
+    put_message(&mut out, address, args)?;
     Ok(out)
 }
 
@@ -56,7 +77,7 @@ fn put(out: &mut Vec<u8>, packet: &Packet<'_>) -> Result<(), AllocError>
     ensures in_range { OnOk result (IsInRange (view packet.now)) }
 {
     match packet {
-        Packet::Message(message) => put_message(out, message),
+        Packet::Message(message) => put_message(out, message.address, message.args.as_slice()),
         Packet::Discarded { .. } => Ok(()),
         Packet::Bundle { tag, items } => {
             out.extend_from_slice(&BUNDLE_HEAD)?;

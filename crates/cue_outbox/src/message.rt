@@ -8,7 +8,7 @@ ghost use Rattle.cue_osc.specs.declared.limits.TheConstants.{MAX_LEN};
 ghost use Rattle.cue_outbox.specs.Sending.{number as number_of};
 
 use crate::out::Out;
-use cue_osc::{Arg, Args, Message, Packet, WriteFault};
+use cue_osc::{Arg, WriteFault};
 use cue_show::Bytes;
 use std::alloc::{AllocError, Global};
 
@@ -17,18 +17,14 @@ pub(crate) fn write_message(
     alloc: Global,
     to: u16,
     address: &[u8],
-    args: Vec<Arg<'_>>,
+    args: &[Arg<'_>],
 ) -> Result<Out, AllocError>
-    requires plain { IsPlain 8 (message address.now (map arg_view args.items)) }
-    requires short { length (text_of (message address.now (map arg_view args.items))) ≤ MAX_LEN }
+    requires plain { IsPlain 8 (message address.now (map arg_view args.now)) }
+    requires short { length (text_of (message address.now (map arg_view args.now))) ≤ MAX_LEN }
     ensures to { IfOk result (λ out. out.to ≡ to) }
-    ensures bytes { IfOk result (λ out. out.bytes ≡ text_of (message address.now (map arg_view args.entry.items))) }
+    ensures bytes { IfOk result (λ out. out.bytes ≡ text_of (message address.now (map arg_view args.now))) }
 {
-    let packet = Packet::Message(Message {
-        address,
-        args: Args::from_vec(args),
-    });
-    match cue_osc::write(alloc, &packet) {
+    match cue_osc::write_message(alloc, address, args) {
         Ok(bytes) => Ok(Out {
             to,
             bytes: Bytes::from_vec(bytes),

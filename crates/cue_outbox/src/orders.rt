@@ -156,27 +156,27 @@ fn standby(
     requires short { length bytes.now ≤ MAX_PART_BYTES }
     ensures { IfOk result (λ out. out_view out ≡ datagram (to, order (standby seq device cue bytes.now))) }
 {
-    let args = vec![in alloc;
+    let args = [
         int(seq),
         int(u32::from(device.number())),
         Arg::Text(cue.text()),
         Arg::Blob(bytes),
-    ]?;
-    write_message(alloc, to, b"/msc/standby", args)
+    ];
+    write_message(alloc, to, b"/msc/standby", &args)
 }
 
 fn go_2pc(alloc: Global, to: u16, seq: u32, device: DeviceNo) -> Result<Out, AllocError>
     requires { seq ≤ MAX_NUMBER }
     ensures { IfOk result (λ out. out_view out ≡ datagram (to, order (go_2pc seq device))) }
 {
-    let args = vec![in alloc; int(seq), int(u32::from(device.number()))]?;
-    write_message(alloc, to, b"/msc/go_2pc", args)
+    let args = [int(seq), int(u32::from(device.number()))];
+    write_message(alloc, to, b"/msc/go_2pc", &args)
 }
 
 fn cancel(alloc: Global, to: u16, seq: u32, device: DeviceNo) -> Result<Out, AllocError>
     requires { seq ≤ MAX_NUMBER }
     ensures { IfOk result (λ out. out_view out ≡ datagram (to, order (cancel seq device))) }
 {
-    let args = vec![in alloc; int(seq), int(u32::from(device.number()))]?;
-    write_message(alloc, to, b"/msc/cancel", args)
+    let args = [int(seq), int(u32::from(device.number()))];
+    write_message(alloc, to, b"/msc/cancel", &args)
 }

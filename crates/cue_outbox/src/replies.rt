@@ -27,14 +27,14 @@ pub fn reply(
     requires { IsText address.now }
     ensures { IfOk result (λ out. out_view out ≡ datagram (to, reply (take 64 address.now) made known refused code)) }
 {
-    let args = vec![in alloc;
+    let args = [
         Arg::Text(front_of(address, SHOWN)),
         int(u32::from(made)),
         int(u32::from(known)),
         int(u32::from(refused)),
         int(u32::from(code)),
-    ]?;
-    write_message(alloc, to, b"/reply", args)
+    ];
+    write_message(alloc, to, b"/reply", &args)
 }
 
 fn front_of(text: &[u8], most: usize) -> &[u8]

@@ -19,14 +19,14 @@ pub fn status(alloc: Global, to: u16, state: &State) -> Result<Out, AllocError>
     ensures { IfOk result (λ out. out_view out ≡ datagram (to, status_of state.now)) }
 {
     let place = state.show().place();
-    let args = vec![in alloc;
+    let args = [
         int(last_number(state)),
         Arg::Text(text_of(&place)),
         int(live_count(state)),
         int(last_ended(state)),
         int(ended_outcome(state.ended())),
-    ]?;
-    write_message(alloc, to, b"/status", args)
+    ];
+    write_message(alloc, to, b"/status", &args)
 }
 
 #[tactic(auto, using(crate::proofs::FactLemmas::last_fits))]

@@ -7,7 +7,7 @@ ghost use Rattle.cue_osc.specs.Spelling.{osc_string, osc_blob, argument, tag, ta
 ghost use Rattle.cue_osc.specs.Writing.{IsArgInRange};
 ghost use Rattle.cue_osc.specs.declared.limits.TheConstants.{MAX_LEN};
 
-use crate::packet::{Arg, Message};
+use crate::packet::Arg;
 use std::alloc::AllocError;
 
 /// At most four zeros.
@@ -83,13 +83,16 @@ fn put_args(out: &mut Vec<u8>, args: &[Arg<'_>]) -> Result<(), AllocError>
 }
 
 /// A message, with its type tag string.
-pub(crate) fn put_message(out: &mut Vec<u8>, message: &Message<'_>) -> Result<(), AllocError>
-    requires { length (message_text message.now.address.now message.now.args) ≤ MAX_LEN }
-    ensures ok { OnOk result (out.new.items ≡ out.old.items ++ message_text message.now.address.now message.now.args) }
-    ensures in_range { OnOk result (AllByRecursion IsArgInRange message.now.args) }
+pub(crate) fn put_message(
+    out: &mut Vec<u8>,
+    address: &[u8],
+    args: &[Arg<'_>],
+) -> Result<(), AllocError>
+    requires { length (message_text address.now (map arg_view args.now)) ≤ MAX_LEN }
+    ensures ok { OnOk result (out.new.items ≡ out.old.items ++ message_text address.now (map arg_view args.now)) }
+    ensures in_range { OnOk result (AllByRecursion IsArgInRange (map arg_view args.now)) }
 {
-    let args = message.args.as_slice();
-    put_string(out, message.address)?;
+    put_string(out, address)?;
     put_tags(out, args)?;
     put_args(out, args)
 }

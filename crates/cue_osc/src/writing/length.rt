@@ -8,7 +8,7 @@ ghost use Rattle.cue_osc.specs.Spelling.{argument, message_text};
 ghost use Rattle.cue_osc.specs.Writing.{text_of, elements_text, room_left};
 
 use crate::limits::{BUNDLE_FRAME_LEN, SIZE_LEN};
-use crate::packet::{Arg, Message, Packet};
+use crate::packet::{Arg, Packet};
 
 /// What an OSC-string of so many bytes takes.
 fn string_len(len: usize) -> usize
@@ -42,11 +42,11 @@ fn room_after_args(args: &[Arg<'_>], room: usize) -> Option<usize>
     Some(left)
 }
 
-fn room_after_message(message: &Message<'_>, room: usize) -> Option<usize>
-    ensures { result ≡ room_left room (length (message_text message.now.address.now message.now.args)) }
+/// What is left of so many bytes after a message, if it fits.
+pub(crate) fn room_after_message(address: &[u8], args: &[Arg<'_>], room: usize) -> Option<usize>
+    ensures { result ≡ room_left room (length (message_text address.now (map arg_view args.now))) }
 {
-    let args = message.args.as_slice();
-    let left = room.checked_sub(string_len(message.address.len()))?;
+    let left = room.checked_sub(string_len(address.len()))?;
     let left = left.checked_sub(string_len(args.len() + 1))?;
     room_after_args(args, left)
 }
@@ -57,7 +57,9 @@ pub(crate) fn room_after(packet: &Packet<'_>, room: usize) -> Option<usize>
     ensures { result ≡ room_left room (length (text_of (view packet.now))) }
 {
     match packet {
-        Packet::Message(message) => room_after_message(message, room),
+        Packet::Message(message) => {
+            room_after_message(message.address, message.args.as_slice(), room)
+        }
         Packet::Discarded { .. } => Some(room),
         Packet::Bundle { items, .. } => {
             let left = room.checked_sub(BUNDLE_FRAME_LEN)?;

@@ -101,6 +101,13 @@ folded_together s [] = refl
 folded_together s ([] ∷ batches) = folded_together s batches
 folded_together s ((e ∷ es) ∷ batches) = folded_together (after_events s (e ∷ es)) batches
 
+-- Without an event they change nothing.
+pub nothing_changed : (s : ShowState) (batches : List (List Event)) → length (with_events batches) ≡ 0
+    → folded_all s batches ≡ s
+nothing_changed s [] none = refl
+nothing_changed s ([] ∷ batches) none = nothing_changed s batches none
+nothing_changed s ((e ∷ es) ∷ batches) none = absurd (omega (arith, none))
+
 -- batches that follow others
 in_turn_all : (s : ShowState) (first then : List (List Event)) → IsTrue (are_in_turn s first)
     → IsTrue (are_in_turn (folded_all s first) then) → IsTrue (are_in_turn s (first ++ then))

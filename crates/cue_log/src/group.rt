@@ -9,6 +9,9 @@ use crate::record::Record;
 use std::alloc::{AllocError, Global};
 use std::marker::Model;
 
+/// How many bytes a group has room for at first: most have one record, of a command.
+const ROOM: usize = 128;
+
 /// Records that are appended together, by `Log::append_all`: a stop leaves none of them or all. Contracts see the list
 /// of their payloads.
 #[derive(Debug, Drop)]
@@ -35,7 +38,8 @@ impl RecordGroup {
     pub fn new(alloc: Global) -> Result<RecordGroup, AllocError>
         ensures { IfOk result (λ group. group ≡ []) }
     {
-        let bytes: Vec<u8> = vec![in alloc; CLOSED; 1]?;
+        let mut bytes = Vec::with_capacity(alloc, ROOM)?;
+        bytes.push_reserved(CLOSED);
         Ok(RecordGroup { bytes, count: 0 })
     }
 

@@ -12,8 +12,8 @@ commit-requires-clause-area g c = area_stands c.args.self.now (sym c.is_broken.e
 pub invariant_of-self-2 : goal.invariant_of-self-2
 invariant_of-self-2 g c = record {
   stands = λ live spare works.
-      found (live_area_of g.D.Disk.held c.commit.new.snap) c.swap.new.y
-      (rw (c.swap.ensures.y_after, c.requires.drafted)
+      found (live_area_of g.D.Disk.held c.commit.new.snap) c.take_over.new.kept
+      (rw c.take_over.ensures.kept
       (kept_after c.args.self.now.state c.args.group.now c.args.self.now.snap c.commit.new.snap
       (area_stands c.args.self.now (sym c.is_broken.ensures.broken ∙ c.if-is_broken.false)) c.commit.ensures.each
       c.requires.in_turn c.in_ok-commit.ensures.commits live spare));
@@ -35,7 +35,7 @@ returns-in_err-commit-clause-accepts g c =
 
 pub returns-clause-accepts : goal.returns-clause-accepts
 returns-clause-accepts g c = record {
-  state = c.swap.ensures.y_after ∙ c.requires.drafted;
+  state = c.take_over.ensures.kept;
   stands = λ first second.
       let commits = c.in_ok-commit.ensures.commits in
       stands_as (folded_all c.args.self.now.state c.args.group.now) c.commit.new.snap c.is_broken-broken.ensures.reads

@@ -12,6 +12,19 @@ use cue_words::code_words;
 use std::alloc::{AllocError, Global};
 use std::fmt::Write;
 
+/// How many bytes a line has room for at first: few replies have a longer one.
+const LINE: usize = 160;
+
+// The text of an address, if none of its bytes is escaped in a line, as is known of most.
+fn plain_text(address: &[u8]) -> Option<&str> {
+    let is_plain = |x: &u8| matches!(x, b' '..=b'~') && !matches!(x, b'\\' | b'\'' | b'"');
+    if address.iter().all(is_plain) {
+        str::from_utf8(address).ok()
+    } else {
+        None
+    }
+}
+
 // Whether an address speaks to many.
 fn is_wide(address: &[u8]) -> bool {
     address
@@ -68,7 +81,8 @@ impl Answer<'_> {
 
     /// The reply as its line says it.
     pub fn text(&self, alloc: Global) -> Result<String, AllocError> {
-        let mut text = format!(in alloc; "{} asked ", self.reply.port)?;
+        let mut text = String::with_capacity(alloc, LINE)?;
+        write!(text, "{} asked ", self.reply.port)?;
         self.push_address(&mut text)?;
         self.push_counts(&mut text)?;
         let more = self.more(alloc)?;
@@ -83,12 +97,11 @@ impl Answer<'_> {
 
     fn push_address(&self, text: &mut String) -> Result<(), AllocError> {
         let address = self.reply.address.as_slice();
-        if address.is_empty() {
-            text.push_str("-")?;
-        } else {
-            write!(text, "{}", address.escape_ascii())?;
+        match plain_text(address) {
+            Some("") => text.push_str("-"),
+            Some(plain) => text.push_str(plain),
+            None => write!(text, "{}", address.escape_ascii()),
         }
-        Ok(())
     }
 
     // Whether the first command that was refused has this code.

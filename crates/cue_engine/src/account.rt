@@ -1,10 +1,9 @@
 //! What an input came to, as values, for whoever writes a log.
-ghost use Rattle.std.specs.Prelude.{◌≡◌, take, IfOk};
+ghost use Rattle.std.specs.Prelude.{◌≡◌, ◌≤◌, take, length};
 ghost use Rattle.cue_engine.specs.Accounts.{plain_reply};
 
 use crate::taken::Taken;
-use cue_show::{Bytes, DeviceNo};
-use std::alloc::{AllocError, Global};
+use cue_show::{DeviceNo, ShortBytes};
 
 /// The most bytes of an address that a reply shows.
 const SHOWN: usize = 64;
@@ -15,7 +14,7 @@ pub struct Reply {
     /// The port that asked.
     pub port: u16,
     /// The address that was asked, as the reply shows it: at most 64 bytes; none if there is no message.
-    pub address: Bytes,
+    pub address: ShortBytes<SHOWN>,
     pub counts: Taken,
     /// Of the first command that was refused, or of the datagram; 0 if none was.
     pub code: u16,
@@ -27,30 +26,34 @@ pub struct Reply {
 
 impl Reply {
     /// A reply without statuses and events.
-    pub(crate) fn plain(
-        alloc: Global,
-        port: u16,
-        address: &[u8],
-        counts: Taken,
-        code: u16,
-    ) -> Result<Reply, AllocError>
-        ensures { IfOk result (λ reply. reply ≡ plain_reply port address.now counts code) }
+    pub(crate) fn plain(port: u16, address: &[u8], counts: Taken, code: u16) -> Reply
+        ensures { result ≡ plain_reply port address.now counts code }
     {
-        let shown = Vec::from_slice(alloc, front_of(address, SHOWN))?;
-        Ok(Reply {
+        Reply {
             port,
-            address: Bytes::from_vec(shown),
+            address: shown_of(address),
             counts,
             code,
             statuses: 0,
             events: 0,
-        })
+        }
+    }
+}
+
+// The bytes that a reply shows of an address.
+fn shown_of(address: &[u8]) -> ShortBytes<SHOWN>
+    ensures { result ≡ take 64 address.now }
+{
+    match ShortBytes::read(front_of(address, SHOWN)) {
+        Some(shown) => shown,
+        None => unreachable!(),
     }
 }
 
 // So many bytes at most, from the front.
 fn front_of(text: &[u8], most: usize) -> &[u8]
-    ensures { result.now ≡ take most text.now }
+    ensures front { result.now ≡ take most text.now }
+    ensures short { length result.now ≤ most }
 {
     if text.len() <= most {
         text

@@ -35,19 +35,6 @@ pub(crate) struct Offered {
 }
 
 impl Offered {
-    /// Nothing yet.
-    fn new(alloc: Global) -> Result<Offered, AllocError>
-        ensures group { IfOk result (λ offered. offered.group ≡ []) }
-        ensures sends { IfOk result (λ offered. outs_view offered.sends.items ≡ []) }
-        ensures accounts { IfOk result (λ offered. offered.accounts.items ≡ []) }
-    {
-        Ok(Offered {
-            group: BatchGroup::new(alloc)?,
-            sends: Vec::new(alloc),
-            accounts: Vec::new(alloc),
-        })
-    }
-
     /// This batch alone, what is sent for it, and its account.
     pub(crate) fn of_one(
         alloc: Global,
@@ -70,6 +57,24 @@ impl Offered {
             sends,
             accounts,
         })
+    }
+
+    // What an input gives, alone.
+    fn of_heard(alloc: Global, heard: Heard) -> Result<Offered, AllocError>
+        requires batch { 1 ≤ length heard.batch.items → IsTrue (is_batch heard.batch.items) }
+        requires fits { FitsRecord heard.batch.items }
+        ensures group { IfOk result (λ first. first.group ≡ heard.batch.items ∷ []) }
+        ensures sends { IfOk result (λ first. outs_view first.sends.items ≡ outs_view heard.sends.items) }
+        ensures account { IfOk result (λ first. accounts_view first.accounts.items ≡ accounted heard ∷ []) }
+    {
+        let Heard {
+            batch,
+            sends,
+            replies,
+            orders,
+            ..
+        } = heard;
+        Offered::of_one(alloc, batch, sends, Account { replies, orders })
     }
 
     // Adds what an input gives after all that was offered before. If memory runs out nothing changes.
@@ -132,8 +137,8 @@ pub(crate) fn offer_first(
     // Called for its clause that the state keeps its rules.
     let _last = kept.last_seq();
     let heard = judge_input(alloc, now, kept, draft, input)?;
-    let mut first = Offered::new(alloc)?;
-    let counts = first.add(heard)?;
+    let counts = heard.counts;
+    let first = Offered::of_heard(alloc, heard)?;
     follow(alloc, spare, last_batch(first.group.batches()));
     Ok((first, counts))
 }

@@ -115,6 +115,32 @@ module _ {D : Type 0} {disk : Ghosts D} where
         works = λ _. still;
       }
 
+  -- the engine rested before it
+  pub after_rest : {size room : ℕ} {round : Round} {old mid new : Engine D disk} {left left_then : Option (List Answer)}
+      {told told_then : Option (List Handed)} → keeper_of mid ≡ keeper_of old
+      → HasRound size room round mid new left left_then told told_then
+      → HasRound size room round old new left left_then told told_then
+  after_rest same round = record {
+    mid = round.mid;
+    taken = rw same at round.taken;
+    why = rw same at round.why;
+    at_most = round.at_most;
+    some = round.some;
+    none_taken = rw same at round.none_taken;
+    rests = rw same at round.rests;
+    keeps = rw same at round.keeps;
+    works = rw same at round.works;
+  }
+
+  -- nothing is offered after it either
+  pub none_offered : {old new : Engine D disk}
+      → (offered_of new ≡ offered_of old) × (offered_sends_of new ≡ offered_sends_of old)
+      → IsOffered [] old → IsOffered [] new
+  none_offered offered none = record {
+    batches = offered.0 ∙ none.batches;
+    sends = offered.1 ∙ none.sends;
+  }
+
   -- ---- rounds in order
 
   -- what was offered before the run was withdrawn, and what was owed was handed over
@@ -143,7 +169,7 @@ module _ {D : Type 0} {disk : Ghosts D} where
     none_taken = λ _. refl;
     rests = λ _. ap kept.pair_of same;
     emptied = emptied;
-    dropped = record { batches = offered.0 ∙ none.batches; sends = offered.1 ∙ none.sends };
+    dropped = none_offered offered none;
   }
 
   -- it ended after its last round, or without one

@@ -11,6 +11,7 @@ ghost use Rattle.cue_engine.specs.Accounts.{accounts_view};
 
 use super::{Engine, drop_offered};
 use crate::account::Account;
+use crate::drafts::follow;
 use crate::input::Input;
 use crate::keeping::keep;
 use crate::offers::{offer_first, offer_next};
@@ -143,8 +144,22 @@ impl<D: Disk> Engine<D> {
         }
     }
 
+    /// Does what can wait until all that was owed is sent, so that nobody waits for it: the draft catches up with the
+    /// state, and the last batches and their accounts are forgotten. It makes no device call.
+    pub fn rest(&mut self)
+        ensures keeper { keeper_of self.new ≡ keeper_of self.old }
+        ensures queue { queue_of self.new ≡ queue_of self.old }
+        ensures offered { (offered_of self.new ≡ offered_of self.old)
+            × (offered_sends_of self.new ≡ offered_sends_of self.old) }
+    {
+        if self.offered.is_none() {
+            follow(self.alloc, &mut self.draft, &[]);
+        }
+    }
+
     /// The batches that were accepted last, one for each input of the last `commit`, in order, for whoever writes a
-    /// log. One is empty if its input changed nothing. After `take` and `recover` it is the one batch of that call.
+    /// log. One is empty if its input changed nothing. After `take` and `recover` it is the one batch of that call, and
+    /// after `rest` there may be none.
     pub fn last_batches(&self) -> &[Vec<Event>]
         ensures { batches_view result.now ≡ last_batches_of self.now }
     {

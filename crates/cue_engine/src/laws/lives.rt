@@ -98,6 +98,15 @@ pub fn offer<D: Disk>(engine: &mut Engine<D>, now: u64, input: Input<'_>) -> Res
     engine.offer(now, input)
 }
 
+/// `Engine::rest` in the life of a store: what was offered stays, and the life is as it was.
+pub fn rest<D: Disk>(engine: &mut Engine<D>)
+    ensures same { WhateverWasOffered engine.old (λ inputs. IsOffered inputs engine.new) }
+    ensures lives { InEachLifeWith (state_of engine.old) (queue_of engine.old)
+        (λ life. RunsWith life (state_of engine.new) (queue_of engine.new)) }
+{
+    engine.rest();
+}
+
 /// `Engine::commit` in the life of a store: the inputs that were offered are the next incident together, and none if
 /// they were refused. At any moment of the call the promise holds of whatever a crash leaves, and the life goes on at
 /// rest.

@@ -69,7 +69,7 @@ fn close_round<D: Disk, W: Wire, V: Watch<W>>(
     }
 }
 
-/// Takes one group of at most so many inputs. `ends` has room for as many numbers.
+/// Takes one group of at most so many inputs, after a rest. `ends` has room for as many numbers.
 pub(crate) fn take_round<D: Disk, S: Source, W: Wire, V: Watch<W>>(
     engine: &mut Engine<D>,
     source: &mut S,
@@ -89,6 +89,7 @@ pub(crate) fn take_round<D: Disk, S: Source, W: Wire, V: Watch<W>>(
     ensures dropped { IsOffered [] engine.new }
     ensures capacity { vec_capacity ends.new ≡ vec_capacity ends.old }
 {
+    engine.rest();
     // Called for its clause that an engine that works stands for its state.
     let _state = engine.state();
     ends.clear();

@@ -2,7 +2,7 @@
 ghost use Rattle.std.specs.Prelude.{◌≤◌, length, IfOk};
 
 use super::ticks::TICK;
-use std::io;
+use std::io::{self, ErrorKind};
 use std::net::UdpSocket;
 use std::time::Duration;
 
@@ -19,12 +19,19 @@ pub trait Receive {
         ensures within { IfOk result (λ received. received.0 ≤ length buffer.old) };
 }
 
+/// How often a socket is looked at after a datagram came, before a call waits at it: for some 50 µs.
+const LOOKS: u32 = 200;
+
 /// A socket that is waited at, or only looked at. It is set from one to the other if the calls change: of datagrams
-/// that wait together each but the first costs one system call.
+/// that wait together each but the first costs one system call. A call that follows a datagram looks for the next one
+/// before it waits: what comes at once, as the answers of several devices do, is heard without the time that it takes
+/// to be woken.
 #[derive(Drop)]
 pub struct UdpReceiver<'a> {
     socket: &'a UdpSocket,
     waits: bool,
+    // Whether a datagram came, and none was looked for in vain since.
+    is_awake: bool,
 }
 
 impl<'a> UdpReceiver<'a> {
@@ -35,6 +42,7 @@ impl<'a> UdpReceiver<'a> {
         Ok(UdpReceiver {
             socket,
             waits: true,
+            is_awake: false,
         })
     }
 
@@ -47,6 +55,20 @@ impl<'a> UdpReceiver<'a> {
         Ok(())
     }
 
+    // Looks for a datagram until one is there, `LOOKS` times at most.
+    fn receive_soon(&mut self, buffer: &mut [u8]) -> io::Result<(usize, u16)>
+        ensures within { IfOk result (λ received. received.0 ≤ length buffer.old) }
+    {
+        self.set_waits(false)?;
+        for _ in 1..LOOKS {
+            let received = self.receive_now(buffer);
+            if !is_empty(&received) {
+                return received;
+            }
+        }
+        self.receive_now(buffer)
+    }
+
     fn receive_now(&self, buffer: &mut [u8]) -> io::Result<(usize, u16)>
         ensures within { IfOk result (λ received. received.0 ≤ length buffer.old) }
     {
@@ -55,10 +77,27 @@ impl<'a> UdpReceiver<'a> {
     }
 }
 
+// Whether no datagram was there.
+fn is_empty(received: &io::Result<(usize, u16)>) -> bool {
+    match received {
+        Ok(_) => false,
+        Err(error) => error.kind() == ErrorKind::WouldBlock,
+    }
+}
+
 impl<'a> Receive for UdpReceiver<'a> {
     fn receive(&mut self, buffer: &mut [u8]) -> io::Result<(usize, u16)> {
+        if self.is_awake {
+            let soon = self.receive_soon(buffer);
+            if !is_empty(&soon) {
+                return soon;
+            }
+            self.is_awake = false;
+        }
         self.set_waits(true)?;
-        self.receive_now(buffer)
+        let received = self.receive_now(buffer)?;
+        self.is_awake = true;
+        Ok(received)
     }
 
     fn receive_waiting(&mut self, buffer: &mut [u8]) -> io::Result<(usize, u16)> {

@@ -7,7 +7,7 @@ use crate::page::Page;
 use crate::reasons::{cancel_line, device_of_cancel, end_line, recovered_line, standby_line};
 use crate::replies::{Answer, cause_in};
 use crate::sent::Sent;
-use crate::states::state_after;
+use crate::states::follow;
 use crate::time::Time;
 use crate::wire::LoggedWire;
 use cue_core::{Event, State};
@@ -33,27 +33,37 @@ pub fn say_ready<R: Clock + Eprint>(rt: &R, dir: &str, port: u16) {
 /// state of its own, to which it lets the events of each input happen.
 #[derive(Drop)]
 pub struct EveningLog<'a, R: Clock + Eprint> {
-    rt: &'a R,
-    alloc: Global,
-    course: Course,
+    teller: Teller<'a, R>,
     /// The state after the input that was seen last; None before the first look, or if there was no memory for it.
     followed: Option<State>,
-    /// The number of the last attempt that was seen; None before the first look.
-    last: Option<u32>,
 }
 
 impl<'a, R: Clock + Eprint> EveningLog<'a, R> {
     /// It has not looked yet.
     pub fn new(rt: &'a R, alloc: Global) -> EveningLog<'a, R> {
         EveningLog {
-            rt,
-            alloc,
-            course: Course::new(alloc),
+            teller: Teller {
+                rt,
+                alloc,
+                course: Course::new(alloc),
+                last: None,
+            },
             followed: None,
-            last: None,
         }
     }
+}
 
+// Writes the lines of each input, and follows the attempts.
+#[derive(Drop)]
+struct Teller<'a, R: Clock + Eprint> {
+    rt: &'a R,
+    alloc: Global,
+    course: Course,
+    /// The number of the last attempt that was seen; None before the first look.
+    last: Option<u32>,
+}
+
+impl<'a, R: Clock + Eprint> Teller<'a, R> {
     // The first look finds what was recovered.
     fn begin(&mut self, page: &Page<'_, R>, state: &State) {
         let live = state.live().as_slice();
@@ -169,13 +179,10 @@ impl<'a, R: Clock + Eprint, W: Wire + Drop> Watch<LoggedWire<W>> for EveningLog<
         account: Option<&Account>,
         wire: &mut LoggedWire<W>,
     ) {
-        let followed = state_after(self.followed.take(), state, batch);
-        let sent = Sent::of(account, wire.left());
-        match &followed {
-            Some(followed) => self.tell(followed, batch, sent),
-            None => self.tell(state, batch, sent),
-        }
-        self.followed = followed;
+        follow(&mut self.followed, state, batch);
+        let seen = self.followed.as_ref().unwrap_or(state);
+        self.teller
+            .tell(seen, batch, Sent::of(account, wire.left()));
         wire.forget();
     }
 }

@@ -5,20 +5,31 @@ ghost use Rattle.cue_core.specs.Steps.{after, after_events};
 
 use cue_core::{Event, State};
 
-/// The state after the events of an input: the one before it with these, if it is known. Else a copy of the state
-/// that the run shows, which may be ahead of the input until its group ends. None if there is no memory for it.
-pub fn state_after(before: Option<State>, shown: &State, batch: &[Event]) -> Option<State>
-    ensures { IfSome before (λ s. IfSome result (λ t. t ≡ after_events s batch.now)) }
+/// Has the state after the inputs before follow the events of one more. If none is known it becomes a copy of the state
+/// that the run shows, which may be ahead of the input until its group ends; and none, if there is no memory.
+pub fn follow(followed: &mut Option<State>, shown: &State, batch: &[Event])
+    ensures { IfSome followed.old (λ s. IfSome followed.new (λ t. t ≡ after_events s batch.now)) }
 {
-    let Some(mut state) = before else {
-        return shown.try_clone().ok();
-    };
+    match followed {
+        Some(state) => {
+            if !have_applied(state, batch) {
+                *followed = None;
+            }
+        }
+        None => *followed = shown.try_clone().ok(),
+    }
+}
+
+// Lets events happen to a state, in order; answers whether all have happened.
+fn have_applied(state: &mut State, batch: &[Event]) -> bool
+    ensures { result ≡ true → state.new ≡ after_events state.old batch.now }
+{
     for event in batch {
-        if !has_applied(&mut state, event) {
-            return None;
+        if !has_applied(state, event) {
+            return false;
         }
     }
-    Some(state)
+    true
 }
 
 // Lets an event happen to a state, if it may and there is memory for it; answers whether it happened.

@@ -1,7 +1,7 @@
 use Rattle.std.proofs.Common.{◌∙◌, ap, sym}
 use Rattle.cue_core.specs.Steps.{after}
 use Rattle.cue_core.proofs.rules.ApplyLemmas.{after_events-more}
-use Rattle.cue_evening.proofs.states.state_after.Goals as goal
+use Rattle.cue_evening.proofs.states.have_applied.Goals as goal
 
 pub loop-event-preserved : goal.loop-event-preserved
 loop-event-preserved c =

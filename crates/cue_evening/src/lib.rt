@@ -10,7 +10,7 @@
 //!   nor why an attempt ended.
 //! - The run shows the state after a whole group. The log lets the events of each input happen to a state of its own,
 //!   so its lines are those of inputs that come one by one. It is a copy, since nobody else needs the states between:
-//!   the kept state is already ahead, and the draft stays behind until the next input.
+//!   the kept state is already ahead, and the draft is behind it until the engine rests.
 //! - What keeps a command from being made is looked up only if no later command of the datagram changed the state.
 //! - If there is no memory for a line it is lost, and the show goes on. If there was none for a bit of the wire, the
 //!   lines of its input are lost that say what was sent.

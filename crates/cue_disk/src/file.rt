@@ -9,7 +9,7 @@ use std::error::Error;
 use std::fmt;
 use std::fs::{File, Files, OpenFile, OpenOptions};
 use std::io::{self, ErrorKind};
-use std::os::unix::fs::FileExt;
+use std::os::unix::fs::{FileExt, OpenOptionsExt};
 use std::path::Path;
 
 /// Why a file was not opened.
@@ -58,6 +58,10 @@ pub struct DiskOver<F: Drop> {
 /// A disk over a file of the system.
 pub type FileDisk = DiskOver<File>;
 
+/// Who may do what with a file that is made: its owner writes it, its group reads it. Whoever may read a file may lock
+/// it, so nobody else may: one lock keeps the controller from its store.
+pub const MODE: u32 = 0o640;
+
 impl DiskOver<File> {
     /// Opens a file that is there, to read and to write it.
     pub fn open<R: Files<File = File>>(rt: &R, path: &str) -> Result<FileDisk, FileFault>
@@ -76,8 +80,8 @@ impl DiskOver<File> {
         opened.and_then(FileDisk::over).map_err(opening_fault)
     }
 
-    /// Opens a file, or makes it empty if it is missing. The folder that it stands in is synced, so that a crash
-    /// does not lose the file.
+    /// Opens a file, or makes it empty if it is missing, of the mode `MODE`. The folder that it stands in is synced, so
+    /// that a crash does not lose the file.
     pub fn create<R: Files<File = File>>(rt: &R, path: &str) -> Result<FileDisk, FileFault>
         ensures { IfOk result (λ disk. file_failures disk ≡ 0) }
     {
@@ -138,6 +142,7 @@ fn make<R: Files<File = File>>(rt: &R, path: &str) -> io::Result<File> {
         .read(true)
         .write(true)
         .create(true)
+        .mode(MODE)
         .open(rt, path)?;
     let folder = match Path::new(path).parent() {
         Some(folder) if folder.as_str() != "" => folder,

@@ -85,6 +85,11 @@ def two_machines(tree):
     tree.copy(HERE / "two-machines" / "first.res", "usr/share/doc/cuectl/two-machines/")
 
 
+def fly_floor(tree):
+    """What gives a page that only shows to others."""
+    tree.copy(HERE / "fly-floor" / "nginx.conf", "usr/share/doc/cuectl/fly-floor/")
+
+
 def cuectl(tree, programs, version, date):
     """Both programs, their units, and what a stage manager reads."""
     for name in ("cuectl", "cuedesk"):
@@ -97,6 +102,7 @@ def cuectl(tree, programs, version, date):
         tree.text(f"usr/share/zsh/vendor-completions/_{name}", completions.zsh(program))
     units(tree)
     two_machines(tree)
+    fly_floor(tree)
     tree.copy(ROOT / "examples" / "evening.toml", "usr/share/cuectl/")
     tree.text("usr/share/doc/cuectl/first-evening.html", first_evening.made())
     pages_of(tree, "usr/share/doc/cuectl")

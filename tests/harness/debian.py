@@ -51,6 +51,12 @@ def copy(work, name):
     return root
 
 
+def descendants(pid):
+    """The processes that stand below this one."""
+    found = [int(word) for word in Path(f"/proc/{pid}/task/{pid}/children").read_text().split()]
+    return found + [below for child in found for below in descendants(child)]
+
+
 class System:
     """One of them with processes of its own: `close` ends all that runs in it."""
 
@@ -141,10 +147,10 @@ class System:
         return self.root.parent / f"{unit}.said"
 
     def kill(self, unit):
-        """Ends its program by SIGKILL."""
+        """Ends its processes by SIGKILL, as systemd ends what is left of a unit."""
         child = self.running.pop(unit)
-        for pid in Path(f"/proc/{child.pid}/task/{child.pid}/children").read_text().split():
-            os.kill(int(pid), signal.SIGKILL)
+        for pid in descendants(child.pid):
+            os.kill(pid, signal.SIGKILL)
         child.wait()
 
     def close(self):

@@ -21,7 +21,7 @@ use Rattle.cue_engine.specs.Groups.{all_took}
 use Rattle.cue_engine.specs.Headline.{AreKept, CameTo, all_handed, batches_of}
 use Rattle.cue_engine.specs.Incidents.{Incident, committed, stopped_in_commit, recovered, stopped_in_recovery}
 use Rattle.cue_engine.specs.Kept.{IsOfRun, KeptInOrder, KeptIsAHistory, KeptIsARun, KeptNumberNamesOne, NeverHandedBoth}
-use Rattle.cue_engine.specs.Kept.{was_handed}
+use Rattle.cue_engine.specs.Kept.{happenings_of, was_handed}
 use Rattle.cue_engine.specs.Runs.{Happening, run, given_at, joined_list, rests, send_rests, with_batch}
 use Rattle.cue_engine.specs.Runs as runs
 use Rattle.cue_engine.proofs.AttemptLemmas.{contrary, decided_in_order, no_any, number_names_one}
@@ -46,14 +46,6 @@ run_more s (h ∷ hs) later =
     ap (with_batch batch) (run_more next hs later)
     ∙ with_more batch (run next hs).batches (run (run next hs).state later).batches
 
--- what comes to the state with an incident, where its batches are kept
-abbrev happenings_of : Incident → List Happening
-happenings_of (committed inputs) = all_took inputs
-happenings_of (stopped_in_commit inputs n one other) = all_took inputs
-happenings_of (recovered t) = runs.recovered ∷ []
-happenings_of (stopped_in_recovery one other) = runs.recovered ∷ []
-happenings_of _ = []
-
 -- a run leads to the state that its batches make
 folded_with : (s : ShowState) (batch : List Event) (batches : List (List Event))
     → folded_all (after_events s batch) batches ≡ folded_all s (with_batch batch batches)
@@ -76,14 +68,15 @@ incident_runs s (stopped_in_recovery one other) = with_first (given_recovery s).
 incident_runs s _ = refl
 
 pub kept_is_a_run : KeptIsARun
-kept_is_a_run s [] kept are = record { happenings = []; same = sym are }
+kept_is_a_run s [] kept are = record { happenings = []; came = refl; same = sym are }
 kept_is_a_run s (i ∷ is) kept (inl whole) =
     let here = incident_runs s i in
-    let later : IsOfRun (folded_all s (batches_of s i)) whole.0 =
+    let later : IsOfRun (folded_all s (batches_of s i)) is whole.0 =
     kept_is_a_run (folded_all s (batches_of s i)) is whole.0 whole.1.1 in
     let hs : List Happening = later.happenings in
     record {
       happenings = happenings_of i ++ hs;
+      came = inl (hs, (refl, later.came));
       same = run_more s (happenings_of i) hs
           ∙ ap (λ (bs : List (List Event)). bs ++ (run (run s (happenings_of i)).state hs).batches) here
           ∙ ap (λ (t : ShowState). batches_of s i ++ (run t hs).batches)
@@ -91,22 +84,24 @@ kept_is_a_run s (i ∷ is) kept (inl whole) =
           ∙ ap (λ (bs : List (List Event)). batches_of s i ++ bs) later.same
           ∙ sym whole.1.0;
     }
-kept_is_a_run s (i ∷ is) kept (inr cut) = kept_is_a_run s is kept cut.1
+kept_is_a_run s (i ∷ is) kept (inr cut) =
+    let others : IsOfRun s is kept = kept_is_a_run s is kept cut.1 in
+    record { happenings = others.happenings; came = inr (cut.0, others.came); same = others.same }
 
 pub kept_is_a_history : KeptIsAHistory
 kept_is_a_history is kept are =
-    let r : IsOfRun empty_state kept = kept_is_a_run empty_state is kept are in
+    let r : IsOfRun empty_state is kept = kept_is_a_run empty_state is kept are in
     subst (λ (bs : List (List Event)). IsTrue (is_history (onto (joined_list bs) []))) r.same
     (inputs_make_histories r.happenings)
 
 pub kept_in_order : KeptInOrder
 kept_in_order is kept q before later are split =
-    let r : IsOfRun empty_state kept = kept_is_a_run empty_state is kept are in
+    let r : IsOfRun empty_state is kept = kept_is_a_run empty_state is kept are in
     decided_in_order r.happenings q before later (ap joined_list r.same ∙ split)
 
 pub number_names_one_kept : KeptNumberNamesOne
 number_names_one_kept is kept q cue deadline before later are split =
-    let r : IsOfRun empty_state kept = kept_is_a_run empty_state is kept are in
+    let r : IsOfRun empty_state is kept = kept_is_a_run empty_state is kept are in
     number_names_one r.happenings q cue deadline before later (ap joined_list r.same ∙ split)
 
 -- the events of what is kept: those of the first incident, and then those of the others

@@ -2,7 +2,7 @@
 --
 -- `Attempts` says the same of runs, which lose no batch. Here every list of incidents is meant, with whatever batches
 -- it may have kept.
-use Rattle.std.specs.Prelude.{◌≡◌, ℕ, Bool, not, ◌&&◌, List, ◌∷◌, ◌++◌, [], IsTrue}
+use Rattle.std.specs.Prelude.{◌≡◌, ◌⊎◌, ℕ, Bool, true, not, ◌&&◌, List, ◌∷◌, ◌++◌, [], IsTrue}
 use Rattle.std.specs.List.{list_any}
 use Rattle.cue_core.specs.declared.event.Event.{Event}
 use Rattle.cue_core.specs.declared.event.Event.TheVariants.{Start, Go}
@@ -13,18 +13,38 @@ use Rattle.cue_core.specs.History.{is_history}
 use Rattle.cue_core.specs.Pending.{Order}
 use Rattle.cue_core.specs.Safety.{is_go_to, is_cancel_to}
 use Rattle.cue_engine.specs.Attempts.{IsDecidedInOrder, is_order_with}
-use Rattle.cue_engine.specs.Headline.{AreKept, BeginsWith, MayRead, all_handed}
+use Rattle.cue_engine.specs.Groups.{all_took}
+use Rattle.cue_engine.specs.Headline.{AreKept, BeginsWith, MayRead, all_handed, is_cut_off}
 use Rattle.cue_engine.specs.Incidents.{Incident, Store, Happens, left_by_all}
+use Rattle.cue_engine.specs.Incidents.{committed, stopped_in_commit, recovered, stopped_in_recovery}
 use Rattle.cue_engine.specs.Runs.{Happening, run, joined_list}
+use Rattle.cue_engine.specs.Runs as runs
 
--- These are all batches of this run.
-pub record IsOfRun (s : ShowState) (kept : List (List Event)) : Type 0 where
+-- what comes to the state with an incident, if its batches are kept: its inputs, or a recovery
+abbrev pub happenings_of : Incident → List Happening
+happenings_of (committed inputs) = all_took inputs
+happenings_of (stopped_in_commit inputs n one other) = all_took inputs
+happenings_of (recovered t) = runs.recovered ∷ []
+happenings_of (stopped_in_recovery one other) = runs.recovered ∷ []
+happenings_of _ = []
+
+-- These came with the incidents, in order: all that came with each, or, of one that was cut off, nothing.
+abbrev pub AreOf : List Incident → List Happening → Type 0
+AreOf [] hs = hs ≡ []
+AreOf (i ∷ is) hs =
+    ((others : List Happening) × ((hs ≡ happenings_of i ++ others) × AreOf is others))
+    ⊎ ((is_cut_off i ≡ true) × AreOf is hs)
+
+-- These are all batches of a run of what came with the incidents.
+pub record IsOfRun (s : ShowState) (is : List Incident) (kept : List (List Event)) : Type 0 where
   pub happenings : List Happening
+  pub came : AreOf is happenings
   pub same : (run s happenings).batches ≡ kept
 
--- What is kept are the batches of a run, in which what was cut off and lost never came: each law on runs holds of it.
+-- What is kept are the batches of a run of what came, in which what was cut off and lost never came: each law on runs
+-- holds of it.
 abbrev pub KeptIsARun : Type 0
-KeptIsARun = (s : ShowState) (is : List Incident) (kept : List (List Event)) → AreKept s is kept → IsOfRun s kept
+KeptIsARun = (s : ShowState) (is : List Incident) (kept : List (List Event)) → AreKept s is kept → IsOfRun s is kept
 
 -- It is a history: each law on histories holds of it.
 abbrev pub KeptIsAHistory : Type 0

@@ -1,6 +1,6 @@
 -- Helper: what a call at a socket means: whether something came, when a tick is due, and what was sent whole.
 use Rattle.std.specs.Prelude.{◌≤◌, ◌-◌, ◌||◌, ◌==◌, if◌then◌else◌, ℕ, Bool, false, nat_le, nat_lt, Option, Some, None}
-use Rattle.std.specs.Prelude.{◌≡◌, [], ◌∷◌, Result, Ok, Err}
+use Rattle.std.specs.Prelude.{◌≡◌, [], ◌∷◌, List, Result, Ok, Err, length, min, take}
 use Rattle.std.specs.Net.Addr.{ipv4_octets}
 use Rattle.std.specs.declared.net.ip_addr.IpAddr.{IpAddr}
 use Rattle.std.specs.declared.net.ip_addr.IpAddr.TheVariants as ip
@@ -56,6 +56,31 @@ came_of own (Err error) = known_or error (meaning_of (error_kind error))
 -- a tick is due 250 ms after the last one, or if the clock was put back
 abbrev pub is_tick_due : ℕ → ℕ → Bool
 is_tick_due last now = nat_lt now last || nat_le 250 (now - last)
+
+-- A tick that is due comes first: a datagram is given at a moment at which none is due since the last one. So what came
+-- too late for a deadline is judged after the tick at which that deadline has passed.
+abbrev pub TickComesFirst : (last : ℕ) → Turn → Type 0
+TickComesFirst last (turn.Datagram now from n) = is_tick_due last now ≡ false
+TickComesFirst last (turn.Tick now) = Unit {0}
+TickComesFirst last turn.End = Unit {0}
+
+-- the same of a datagram that a look found, within a group
+abbrev pub LooksAfterTicks : (last : ℕ) → Option Waiting → Type 0
+LooksAfterTicks last (Some waiting) = is_tick_due last waiting.now ≡ false
+LooksAfterTicks last None = Unit {0}
+
+-- a datagram that is held: the port that it is from, and its bytes
+abbrev pub holds : Option ℕ → List ℕ → Option (ℕ × List ℕ)
+holds None bytes = None
+holds (Some from) bytes = Some (from, bytes)
+
+-- What is held came into a buffer, its first bytes if the buffer is shorter: the port, and how many bytes of it are there.
+abbrev pub HeldComes : (held : Option (ℕ × List ℕ)) → (given : Option (ℕ × ℕ)) → (buffer : List ℕ) → Type 0
+HeldComes None None buffer = Unit {0}
+HeldComes None (Some given) buffer = ⊥
+HeldComes (Some held) None buffer = ⊥
+HeldComes (Some held) (Some given) buffer =
+    (given.0 ≡ held.0) × (given.1 ≡ min (length held.1) (length buffer)) × (take given.1 buffer ≡ take given.1 held.1)
 
 -- the tick that is due
 abbrev pub tick_if_due : ℕ → ℕ → Option Turn

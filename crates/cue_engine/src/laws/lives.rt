@@ -107,6 +107,15 @@ pub fn rest<D: Disk>(engine: &mut Engine<D>)
     engine.rest();
 }
 
+/// `Engine::withdraw` in the life of a store: nothing is offered any more, and the life is as it was.
+pub fn withdraw<D: Disk>(engine: &mut Engine<D>)
+    ensures dropped { IsOffered [] engine.new }
+    ensures lives { InEachLifeWith (state_of engine.old) (queue_of engine.old)
+        (λ life. RunsWith life (state_of engine.new) (queue_of engine.new)) }
+{
+    engine.withdraw();
+}
+
 /// `Engine::commit` in the life of a store: the inputs that were offered are the next incident together, and none if
 /// they were refused. At any moment of the call the promise holds of whatever a crash leaves, and the life goes on at
 /// rest.

@@ -1,9 +1,13 @@
 //! The network: one UDP socket on 127.0.0.1.
-ghost use Rattle.std.specs.Prelude.{◌≡◌, ◌≤◌, None, length, IfOk};
+ghost use Rattle.std.specs.Prelude.{◌≡◌, ◌≤◌, ◌/◌, ◌∷◌, [], None, length, IfOk, IfSome, false};
+ghost use Rattle.std.specs.Duration.{as_nanos};
 ghost use Rattle.std.specs.Net.Socket.{socket_ip, socket_port};
-ghost use Rattle.cue_engine.specs.Udp.{CameWithin, IsThisMachine, is_whole};
+ghost use Rattle.cue_engine.specs.Sources.{GaveAll, IsWithin, Waited, WaitsWithin, gave};
+ghost use Rattle.cue_engine.specs.Tries.{Tried, try_of};
+ghost use Rattle.cue_engine.specs.Udp.{CameWithin, IsThisMachine, LooksAfterTicks, NextWithin, TickComesFirst, is_tick_due, is_whole};
 
 mod came;
+mod held;
 mod receive;
 mod ticks;
 mod tries;
@@ -11,10 +15,11 @@ mod tries;
 use crate::sources::source::{Source, SourceFault, Turn, Waiting};
 use crate::wire::{Wire, WireFault};
 use came::{Came, waiting_of, what_came};
+use held::Held;
 pub use receive::{Receive, UdpReceiver};
 use std::io::{self, ErrorKind};
 use std::net::{IpAddr, Ipv4Addr, SocketAddr, UdpSocket};
-use std::time::Clock;
+use std::time::{Clock, Duration};
 use ticks::Ticks;
 use tries::MAX_DROPPED;
 pub use tries::{Tries, first_turn, udp_limits};
@@ -27,23 +32,33 @@ pub fn local(port: u16) -> SocketAddr
     SocketAddr::new(IpAddr::V4(Ipv4Addr::LOCALHOST), port)
 }
 
-/// Milliseconds since 1970.
-fn now_of<C: Clock>(clock: &C) -> io::Result<u64> {
-    match u64::try_from(clock.since_1970()?.as_millis()) {
-        Ok(now) => Ok(now),
+// Whole milliseconds. The error is that a number of 64 bits cannot hold them.
+fn millis_of(since: Duration) -> io::Result<u64>
+    ensures { IfOk result (λ millis. millis ≡ as_nanos since / 1_000_000) }
+{
+    match u64::try_from(since.as_millis()) {
+        Ok(millis) => Ok(millis),
         Err(_) => Err(io::Error::from(ErrorKind::InvalidData)),
     }
 }
 
+// Milliseconds since 1970, by the clock.
+fn now_of<C: Clock>(clock: &C) -> io::Result<u64> {
+    millis_of(clock.since_1970()?)
+}
+
 /// The datagrams of a receiver, and ticks between them: one if the clock shows 250 ms since the last tick or was put
-/// back, or if the receiver waited and no datagram came. It reports nothing. Of the 65,536 datagrams that a call
-/// drops at most no contract speaks; a test counts them.
+/// back, or if the receiver waited and no datagram came. A tick that is due comes before any datagram, also before one
+/// that came while a call waited or looked: that one is held, and comes after the tick. So what came too late for a
+/// deadline is judged after the tick at which the deadline has passed, however long the program was stopped. It reports
+/// nothing. Of the 65,536 datagrams that a call drops at most no contract speaks; a test counts them.
 #[derive(Drop)]
 pub struct UdpSource<'a, C: Clock, R: Receive + Drop> {
     clock: &'a C,
     receiver: R,
     own: u16,
     ticks: Ticks,
+    held: Held,
 }
 
 impl<'a, C: Clock, R: Receive + Drop> UdpSource<'a, C, R> {
@@ -55,6 +70,7 @@ impl<'a, C: Clock, R: Receive + Drop> UdpSource<'a, C, R> {
             receiver,
             own,
             ticks,
+            held: Held::none(),
         })
     }
 
@@ -68,40 +84,83 @@ impl<'a, C: Clock, R: Receive + Drop> UdpSource<'a, C, R> {
         Ok((came, now))
     }
 
-    // Looks whether a datagram is there. Answers what came, and when.
-    fn look(&mut self, buffer: &mut [u8]) -> io::Result<(Came, u64)>
-        ensures within { IfOk result (λ looked. CameWithin looked.0 (length buffer.old)) }
-        ensures ticks { self.new.ticks ≡ self.old.ticks }
+    // Looks whether a datagram is there that no tick comes before. One that a tick comes before is held.
+    fn look(&mut self, buffer: &mut [u8]) -> io::Result<Option<Waiting>>
+        ensures within { IfOk result (λ found. WaitsWithin (Ok found) (length buffer.old)) }
+        ensures tick_first { IfOk result (LooksAfterTicks self.new.ticks.last) }
     {
+        if self.held.is_some() {
+            return Ok(None);
+        }
         let came = what_came(self.own, self.receiver.receive_waiting(buffer))?;
         let now = now_of(self.clock)?;
-        Ok((came, now))
+        if self.ticks.is_due(now) {
+            self.hold(came, buffer);
+            return Ok(None);
+        }
+        Ok(waiting_of(came, now))
+    }
+
+    // Holds the datagram, if one came.
+    fn hold(&mut self, came: Came, buffer: &[u8])
+        requires { CameWithin came (length buffer.now) }
+        ensures { self.new.ticks ≡ self.old.ticks }
+    {
+        if let Came::Datagram { from, n } = came {
+            self.held.put(from, &buffer[..n]);
+        }
+    }
+
+    // What comes next at a moment at which no tick is due: what is held, or else what a wait brings.
+    fn after_ticks(&mut self, now: u64, buffer: &mut [u8]) -> io::Result<Option<Turn>>
+        requires { is_tick_due self.old.ticks.last now ≡ false }
+        ensures within { IfOk result (λ next. NextWithin next (length buffer.old)) }
+        ensures tick_first { IfOk result (λ next. IfSome next (TickComesFirst self.new.ticks.last)) }
+    {
+        if let Some((from, n)) = self.held.take(buffer) {
+            return Ok(Some(Turn::Datagram { now, from, n }));
+        }
+        let (came, now) = self.wait(buffer)?;
+        if let Some(tick) = self.ticks.due(now) {
+            self.hold(came, buffer);
+            return Ok(Some(tick));
+        }
+        Ok(self.ticks.after(came, now))
     }
 }
 
 impl<'a, C: Clock, R: Receive + Drop> Tries for UdpSource<'a, C, R> {
     ghost left = { λ _. None };
 
+    ghost allows = { λ source turn. TickComesFirst source.ticks.last turn };
+
     fn try_next(&mut self, buffer: &mut [u8]) -> io::Result<Option<Turn>> {
         let now = now_of(self.clock)?;
-        if let Some(tick) = self.ticks.due(now) {
-            return Ok(Some(tick));
+        match self.ticks.due(now) {
+            Some(tick) => Ok(Some(tick)),
+            None => self.after_ticks(now, buffer),
         }
-        let (came, now) = self.wait(buffer)?;
-        Ok(self.ticks.after(came, now))
     }
 }
 
 impl<'a, C: Clock, R: Receive + Drop> Source for UdpSource<'a, C, R> {
     ghost left = { λ _. None };
 
-    fn next(&mut self, buffer: &mut [u8]) -> Result<Turn, SourceFault> {
+    fn next(&mut self, buffer: &mut [u8]) -> Result<Turn, SourceFault>
+        ensures within { IsWithin result (length buffer.old) }
+        ensures gave { GaveAll (length buffer.old) None (gave result buffer.new ∷ []) None }
+        ensures tick_first { IfOk result (TickComesFirst self.new.ticks.last) }
+    {
         first_turn(self, MAX_DROPPED, buffer)
     }
 
-    fn waiting(&mut self, buffer: &mut [u8]) -> Result<Option<Waiting>, SourceFault> {
+    fn waiting(&mut self, buffer: &mut [u8]) -> Result<Option<Waiting>, SourceFault>
+        ensures within { WaitsWithin result (length buffer.old) }
+        ensures waited { Waited (length buffer.old) result buffer.new None None }
+        ensures tick_first { IfOk result (LooksAfterTicks self.new.ticks.last) }
+    {
         match self.look(buffer) {
-            Ok((came, now)) => Ok(waiting_of(came, now)),
+            Ok(found) => Ok(found),
             Err(_) => Err(SourceFault),
         }
     }

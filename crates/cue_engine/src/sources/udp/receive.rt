@@ -1,9 +1,10 @@
 //! Where datagrams are received.
-ghost use Rattle.std.specs.Prelude.{◌≤◌, length, IfOk};
+ghost use Rattle.std.specs.Prelude.{◌≡◌, ◌≤◌, length, IfOk};
+ghost use Rattle.std.specs.Net.Socket.{socket_port};
 
 use super::ticks::TICK;
 use std::io::{self, ErrorKind};
-use std::net::UdpSocket;
+use std::net::{SocketAddr, UdpSocket};
 use std::time::Duration;
 
 /// Where datagrams are received: a socket, or what stands for one in a test.
@@ -72,9 +73,16 @@ impl<'a> UdpReceiver<'a> {
     fn receive_now(&self, buffer: &mut [u8]) -> io::Result<(usize, u16)>
         ensures within { IfOk result (λ received. received.0 ≤ length buffer.old) }
     {
-        let (n, peer) = self.socket.recv_from(buffer)?;
-        Ok((n, peer.port()))
+        let received = self.socket.recv_from(buffer)?;
+        Ok(with_port(received))
     }
+}
+
+// How many bytes came, and the port of whom they came from.
+fn with_port(received: (usize, SocketAddr)) -> (usize, u16)
+    ensures { result ≡ (received.0, socket_port received.1) }
+{
+    (received.0, received.1.port())
 }
 
 // Whether no datagram was there.

@@ -29,6 +29,13 @@ impl Ticks {
         Ticks { last: now }
     }
 
+    /// Whether a tick is due at this time.
+    pub fn is_due(&self, now: u64) -> bool
+        ensures { result ≡ is_tick_due self.now.last now }
+    {
+        is_tick_due(self.last, now)
+    }
+
     /// The tick at this time, if one is due; then it is the last one.
     pub fn due(&mut self, now: u64) -> Option<Turn>
         ensures due { result ≡ tick_if_due self.old.last now }

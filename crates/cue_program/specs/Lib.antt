@@ -3,3 +3,4 @@ pub mod Files
 pub mod Locking
 pub mod Performing
 pub mod Showing
+pub mod Placing

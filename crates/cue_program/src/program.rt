@@ -37,6 +37,7 @@ pub mod fault;
 mod files;
 mod lock;
 pub(crate) mod looking;
+mod place;
 pub(crate) mod settling;
 
 use cue_command_line::{Line, LineFault, line};
@@ -45,12 +46,15 @@ use cue_disk::{Disk, FileDisk};
 use cue_engine::Engine;
 use cue_evening::{EveningLog, LoggedWire, say_ready};
 use cue_keeper::{Fault, StoreFault};
-use cue_run::{Ended, MAX_TOGETHER, RunFault, UdpReceiver, UdpSource, UdpWire, local, run_grouped};
+use cue_run::{
+    Ended, MAX_TOGETHER, RunFault, UdpReceiver, UdpSource, UdpWire, Watch, local, run_grouped,
+};
 use cue_script::script;
 use fault::{ProgramFault, print_fault, run_fault, status_of};
 use files::{create_both, open_both, refused_store, say, say_failures};
 use lock::lock_store;
 use looking::show;
+use place::{Place, PlaceWatch};
 use settling::settle;
 use std::alloc::Global;
 use std::fs::{File, Files};
@@ -109,6 +113,24 @@ fn form<R: Files<File = File> + Eprint, W: Write>(
     }
 }
 
+// Runs the show over a socket that is bound to this port, for so many turns at most, with a watch that looks on.
+fn serve_beside<'a, R: Clock, D: Disk, V: Watch<LoggedWire<UdpWire<'a>>>>(
+    rt: &'a R,
+    alloc: Global,
+    engine: &mut Engine<D>,
+    socket: &'a UdpSocket,
+    port: u16,
+    turns: u64,
+    watch: &mut V,
+) -> io::Result<Ended>
+    ensures { IfOk result (λ ended. ended.turns ≤ turns) }
+{
+    let mut source = UdpSource::new(rt, UdpReceiver::new(socket)?, port)?;
+    let mut wire = LoggedWire::new(alloc, UdpWire::new(socket));
+    let most = MAX_TOGETHER;
+    Ok(run_grouped(alloc, engine, &mut source, &mut wire, turns, most, watch))
+}
+
 /// Runs the show over a socket that is bound to this port, for so many turns at most, and keeps the log of the evening
 /// on standard error. It fails if the socket cannot be read, or there is no memory to begin.
 pub fn serve_on<'a, R: Clock + Eprint, D: Disk>(
@@ -121,11 +143,8 @@ pub fn serve_on<'a, R: Clock + Eprint, D: Disk>(
 ) -> io::Result<Ended>
     ensures { IfOk result (λ ended. ended.turns ≤ turns) }
 {
-    let mut source = UdpSource::new(rt, UdpReceiver::new(socket)?, port)?;
-    let mut wire = LoggedWire::new(alloc, UdpWire::new(socket));
     let mut log = EveningLog::new(rt, alloc);
-    let most = MAX_TOGETHER;
-    Ok(run_grouped(alloc, engine, &mut source, &mut wire, turns, most, &mut log))
+    serve_beside(rt, alloc, engine, socket, port, turns, &mut log)
 }
 
 // Why the port cannot be served.
@@ -137,19 +156,22 @@ fn refused_port<R: Eprint>(rt: &R, port: u16, why: io::Error) -> ProgramFault
 }
 
 // Says that it is ready, and runs the show.
-fn serve_at<R: Clock + Eprint>(
-    rt: &R,
+fn serve_at<'a, R: Clock + Eprint, V: Watch<LoggedWire<UdpWire<'a>>>>(
+    rt: &'a R,
     alloc: Global,
     dir: &str,
     engine: &mut Engine<FileDisk>,
-    socket: &UdpSocket,
+    socket: &'a UdpSocket,
     port: u16,
     turns: u64,
+    watch: &mut V,
 ) -> Result<Ended, ProgramFault>
     ensures { IfOk result (λ ended. ended.turns ≤ turns) }
 {
     say_ready(rt, dir, port);
-    serve_on(rt, alloc, engine, socket, port, turns).map_err(|why| refused_port(rt, port, why))
+    serve_beside(rt, alloc, engine, socket, port, turns, watch).map_err(|why| refused_port(
+        rt, port, why,
+    ))
 }
 
 // Prints how a run ended.
@@ -209,13 +231,36 @@ fn finish<R: Eprint, W: Write>(
     }
 }
 
+// Says that the show of a folder is ready, runs it with a watch that looks on, and prints how the run ended.
+fn serve_watched<'a, R: Clock + Eprint, W: Write, V: Watch<LoggedWire<UdpWire<'a>>>>(
+    rt: &'a R,
+    alloc: Global,
+    dir: &str,
+    mut engine: Engine<FileDisk>,
+    socket: &'a UdpSocket,
+    port: u16,
+    turns: u64,
+    watch: &mut V,
+    writer: &mut W,
+) -> Result<(), ProgramFault>
+    ensures { OnOk result (IsRunTold turns (W.contents writer.old) (W.contents writer.new)) }
+{
+    match serve_at(rt, alloc, dir, &mut engine, socket, port, turns, watch) {
+        Ok(ended) => finish(rt, alloc, dir, engine, ended, writer),
+        Err(fault) => {
+            drop(engine);
+            Err(fault)
+        }
+    }
+}
+
 /// Says that the show of a folder is ready, runs it as `serve_on` does, and prints how the run ended: how many inputs
 /// were taken, and how many sends the system refused. The error says why the run was not carried on.
 pub fn serve_engine<R: Clock + Eprint, W: Write>(
     rt: &R,
     alloc: Global,
     dir: &str,
-    mut engine: Engine<FileDisk>,
+    engine: Engine<FileDisk>,
     socket: &UdpSocket,
     port: u16,
     turns: u64,
@@ -223,13 +268,10 @@ pub fn serve_engine<R: Clock + Eprint, W: Write>(
 ) -> Result<(), ProgramFault>
     ensures { OnOk result (IsRunTold turns (W.contents writer.old) (W.contents writer.new)) }
 {
-    match serve_at(rt, alloc, dir, &mut engine, socket, port, turns) {
-        Ok(ended) => finish(rt, alloc, dir, engine, ended, writer),
-        Err(fault) => {
-            drop(engine);
-            Err(fault)
-        }
-    }
+    let mut log = EveningLog::new(rt, alloc);
+    serve_watched(
+        rt, alloc, dir, engine, socket, port, turns, &mut log, writer,
+    )
 }
 
 // Why a folder is not served whose port cannot be had: for the fault of its store, if it has one.
@@ -286,7 +328,7 @@ fn bound<R: Files<File = File> + Net + Eprint>(
     }
 }
 
-// Runs the show of a folder at a port, and holds the lock of its store meanwhile.
+// Runs the show of a folder at a port. It holds the lock of its store meanwhile, and sees that the files stay there.
 fn serve<R: Files<File = File> + Net + Clock + Eprint, W: Write>(
     rt: &R,
     alloc: Global,
@@ -298,9 +340,13 @@ fn serve<R: Files<File = File> + Net + Clock + Eprint, W: Write>(
     ensures { OnOk result (IsRunTold turns (W.contents writer.old) (W.contents writer.new)) }
 {
     let disks = open_both(rt, alloc, dir)?;
+    let place = Place::of(alloc, dir, &disks)?;
     let lock = lock_store(rt, alloc, dir)?;
     let (socket, engine) = bound(rt, alloc, dir, port, disks)?;
-    let told = serve_engine(rt, alloc, dir, engine, &socket, port, turns, writer);
+    let mut watch = PlaceWatch::new(rt, dir, place, EveningLog::new(rt, alloc));
+    let told = serve_watched(
+        rt, alloc, dir, engine, &socket, port, turns, &mut watch, writer,
+    );
     drop(lock);
     told
 }

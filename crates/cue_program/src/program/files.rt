@@ -26,8 +26,8 @@ pub fn first_path(alloc: Global, dir: &str) -> Result<String, AllocError>
     Ok(format!(in alloc; "{dir}/a.area")?)
 }
 
-// The second file of a folder.
-fn second_path(alloc: Global, dir: &str) -> Result<String, AllocError>
+/// The second file of a folder.
+pub fn second_path(alloc: Global, dir: &str) -> Result<String, AllocError>
     ensures { IfOk result (λ path. string_bytes path ≡ second_path dir.now) }
 {
     Ok(format!(in alloc; "{dir}/b.area")?)

@@ -5,3 +5,5 @@ pub mod PartsLemmas
 pub mod PatternLemmas
 pub mod PositionsLemmas
 pub mod SpellingLemmas
+pub mod LaneLemmas
+pub mod LaneTableLemmas

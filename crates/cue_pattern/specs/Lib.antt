@@ -7,3 +7,4 @@ pub mod Laws
 pub mod Steps
 pub mod Short
 pub mod Literal
+pub mod Lanes

@@ -11,10 +11,19 @@
 //! - A part is matched from its end to its front: a mark for each position of the text says whether the remaining
 //!   pieces match from there on. Each step is one clause about suffixes. The time is bounded by the pieces of a part
 //!   times the bytes of the text.
+//! - Many names are matched side by side, 64 in a word (`Part::matches_each`). For each position there is a word with a
+//!   bit for each name, and the same steps move all of them with one `&` or `|`. So one datagram with a pattern of
+//!   thousands of pieces does not hold a controller up that has a thousand names. Each name has a lane of its own: what
+//!   is proved of a step is what is proved of it over one text. A table says where each letter stands; it has only `.`
+//!   to `9`, and rows for 16 bytes, so that it is made anew for each pattern at the cost of a step. Other names, and a
+//!   few names, are matched one by one.
 #![tactic(auto)]
 
 mod cut;
+mod each;
 mod fault;
+mod lane_steps;
+mod lanes;
 pub mod laws;
 mod limits;
 mod literal;

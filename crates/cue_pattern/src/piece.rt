@@ -98,6 +98,12 @@ impl Part {
         Ok(Part { pieces })
     }
 
+    pub(crate) fn pieces(&self) -> &[Piece]
+        ensures { result.now ≡ self.now }
+    {
+        self.pieces.as_slice()
+    }
+
     /// Whether the part matches a text between two slashes of an address. A text of up to `MAX_SHORT`
     /// bytes takes no memory, a longer one takes it once.
     pub fn matches(&self, text: &[u8]) -> Result<bool, AllocError>

@@ -32,6 +32,12 @@ impl Text {
         Ok(Text { bytes })
     }
 
+    pub(crate) fn bytes(&self) -> &[u8]
+        ensures { result.now ≡ self.now }
+    {
+        self.bytes.as_slice()
+    }
+
     /// Whether the text stands at the front, and the position after it is reached.
     fn leads(&self, text: &[u8], reached: &[bool]) -> bool
         requires { length text.now < length reached.now }
@@ -69,6 +75,12 @@ impl Texts {
             left = behind;
         }
         Ok(Texts { items })
+    }
+
+    pub(crate) fn items(&self) -> &[Text]
+        ensures { result.now ≡ self.now }
+    {
+        self.items.as_slice()
     }
 
     /// Whether one of the texts stands at the front, and the position after it is reached.

@@ -168,3 +168,16 @@ by_many_parts xs show p (a ∷ []) h is l = absurd (omega arith)
 by_many_parts xs show p (a ∷ b ∷ []) h is l = absurd (omega arith)
 by_many_parts xs show p (a ∷ b ∷ c ∷ []) h is l = absurd (omega arith)
 by_many_parts xs show p (a ∷ b ∷ c ∷ d ∷ q) h is l = by_parts xs show p (a ∷ b ∷ c ∷ d ∷ q) h is
+
+-- ---- names that are matched all together
+
+mapped_twice : {X : Type 0} (now : X → List ℕ) (test : List ℕ → Bool) (xs : List X)
+    → map (λ x. test (now x)) xs ≡ map test (map now xs)
+mapped_twice now test [] = refl
+mapped_twice now test (x ∷ xs) = ap (λ bs. test (now x) ∷ bs) (mapped_twice now test xs)
+
+pub each_matched : {X : Type 0} (now : X → List ℕ) (test : List ℕ → Bool) (xs ys : List X) (keys : List (List ℕ))
+    (matched bs : List Bool) → ys ≡ xs → map now xs ≡ keys → matched ≡ map (λ x. test (now x)) ys → bs ≡ matched
+    → bs ≡ map test keys
+each_matched now test xs ys keys matched bs same names each is =
+    is ∙ (each ∙ (ap (map (λ x. test (now x))) same ∙ (mapped_twice now test xs ∙ ap (map test) names)))

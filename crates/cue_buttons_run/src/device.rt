@@ -1,6 +1,6 @@
 //! A device that gives bytes.
 ghost use Rattle.std.specs.Prelude.{◌≡◌};
-ghost use Rattle.cue_buttons_run.specs.Waiting.{found_nothing};
+ghost use Rattle.cue_buttons_run.specs.Waiting.{found_nothing, was_interrupted};
 
 use mio::unix::SourceFd;
 use mio::{Interest, Registry, Token};
@@ -19,6 +19,8 @@ pub enum Came {
     Bytes(usize),
     /// Nothing is there at this moment.
     Nothing,
+    /// A signal came first: nobody knows what is there.
+    Interrupted,
     /// The file is at its end.
     Ended,
     /// It cannot be read any more.
@@ -44,7 +46,14 @@ pub struct Device {
 fn found_nothing(kind: ErrorKind) -> bool
     ensures { result ≡ found_nothing kind }
 {
-    matches!(kind, ErrorKind::WouldBlock | ErrorKind::Interrupted)
+    matches!(kind, ErrorKind::WouldBlock)
+}
+
+// Whether a signal ended the call that failed so.
+fn was_interrupted(kind: ErrorKind) -> bool
+    ensures { result ≡ was_interrupted kind }
+{
+    matches!(kind, ErrorKind::Interrupted)
 }
 
 // What names the file of which the system says this.
@@ -107,6 +116,7 @@ impl Device {
             Ok(0) => Came::Ended,
             Ok(n) => Came::Bytes(n),
             Err(why) if found_nothing(why.kind()) => Came::Nothing,
+            Err(why) if was_interrupted(why.kind()) => Came::Interrupted,
             Err(why) => Came::Gone(why),
         }
     }

@@ -104,7 +104,7 @@ impl<'a, R: Files<File = File> + Net + Clock + Eprint + AllocGlobal> Hand<'a, R>
 
     // Tries once.
     fn attempt(&mut self) -> Result<Progress, AllocError> {
-        match meaning(self.desk.view(), self.desk.awaits(), &self.intent) {
+        match meaning(self.desk.view(), self.desk.awaits(), None, &self.intent) {
             Ok(press) => Ok(self.press(&press)),
             Err(why) => self.hindered(why),
         }

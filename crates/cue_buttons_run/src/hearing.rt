@@ -18,6 +18,9 @@ const PIECE: usize = 1_024;
 
 const PIECES: usize = 2;
 
+/// How many times while what waited is dropped: all that a FIFO holds.
+const PIECES_THAT_WAITED: usize = 64;
+
 /// How many milliseconds lie between two openings, and between two looks at the path.
 const AGAIN: u64 = 1_000;
 
@@ -81,7 +84,11 @@ impl<'a> Ear<'a> {
                 panel.hear(piece.get(..n).unwrap_or(&[]))?;
                 Ok(Ok(true))
             }
-            Came::Nothing => Ok(Ok(false)),
+            Came::Nothing => {
+                panel.emptied();
+                Ok(Ok(false))
+            }
+            Came::Interrupted => Ok(Ok(false)),
             Came::Ended => Ok(Err(Silence::Ended)),
             Came::Gone(why) => Ok(Err(Silence::Gone(Some(why)))),
         }
@@ -92,7 +99,12 @@ impl<'a> Ear<'a> {
         &mut self,
         panel: &mut Panel<'_, R>,
     ) -> Result<Option<Silence>, AllocError> {
-        for _ in 0..PIECES {
+        let most = if panel.is_settled() {
+            PIECES
+        } else {
+            PIECES_THAT_WAITED
+        };
+        for _ in 0..most {
             match self.hear_piece(panel)? {
                 Ok(true) => {}
                 Ok(false) => return Ok(None),

@@ -1,17 +1,19 @@
-//! What is heard of a real desk, what it presses, and what becomes of that, as lines of text.
+//! What is heard of a real desk, and what it presses, as lines of text.
+mod telling;
+
 use crate::pressing::{Outcome, press_at};
-use cue_board::{became_words, unsent_words};
+use cue_board::unsent_words;
 use cue_desk_run::{Beat, Desk};
 use cue_midi::{Heard, Parser, Show};
 use cue_press_words::{
     button_words, intent_words, key_words, spoken_words, trouble_words, why_words,
 };
 use cue_presses::{
-    Address, Held, Intent, Keys, Passed, Press, Settling, Spoken, Tally, Why, held_after,
-    intent_of, is_of_keys, is_second_tap, meaning, spoken_to,
+    Address, Intent, Keys, Passed, Pedals, Press, Settling, Spoken, Tally, Why, intent_of,
+    is_first_of_keys, is_of_keys, is_second_tap, meaning, newest_of, pedals_after, spoken_to,
 };
 use cue_view::button::Button;
-use cue_view::view::{Became, Unsent};
+use cue_view::view::Unsent;
 use mio::Registry;
 use std::alloc::AllocError;
 use std::fmt::{Display, Write as _};
@@ -22,9 +24,6 @@ use std::{io, mem};
 
 /// How many presses are heard in a round: nobody has more fingers.
 const MAX_PRESSES: u32 = 8;
-
-/// How long a press may be open before that is said, in milliseconds.
-const OPEN: u64 = 500;
 
 /// How many milliseconds lie between two lines about presses that were too many.
 const FLOOD: u64 = 1_000;
@@ -38,6 +37,8 @@ struct Pending {
     what: String,
     // Whether it was said that it is open.
     is_told: bool,
+    // What was passed before it.
+    passed: Option<u32>,
 }
 
 /// What a panel is told before it hears anything.
@@ -57,7 +58,7 @@ pub struct Panel<'a, R> {
     desk: Desk<'a, R>,
     setting: Setting,
     parser: Parser,
-    held: Held,
+    pedals: Pedals,
     settling: Settling,
     tally: Tally,
     // This moment.
@@ -68,17 +69,12 @@ pub struct Panel<'a, R> {
     waited: u64,
     flooded: u64,
     floods: Beat,
+    // When the last cue was given here, and the newest attempt that was live then.
     last_go: Option<u64>,
+    passed: Option<u32>,
     pending: Option<Pending>,
     text: String,
 }
-
-/// No key is held.
-const NOTHING: Held = Held {
-    standby: false,
-    go: false,
-    cancel: false,
-};
 
 // The words of what is no key.
 fn passed_of(heard: &Heard) -> Option<Passed> {
@@ -99,7 +95,7 @@ impl<'a, R: Files<File = File> + Net + Clock + AllocGlobal> Panel<'a, R> {
             desk,
             setting,
             parser: Parser::new(),
-            held: NOTHING,
+            pedals: Pedals::unheard(),
             settling: Settling::new(0),
             tally: Tally::new(alloc),
             now: 0,
@@ -108,6 +104,7 @@ impl<'a, R: Files<File = File> + Net + Clock + AllocGlobal> Panel<'a, R> {
             flooded: 0,
             floods: Beat::of(FLOOD),
             last_go: None,
+            passed: None,
             pending: None,
             text: String::new(alloc),
         }
@@ -169,7 +166,7 @@ impl<'a, R: Files<File = File> + Net + Clock + AllocGlobal> Panel<'a, R> {
     /// A device is opened at this moment.
     pub fn opened(&mut self, now: u64) {
         self.parser = Parser::new();
-        self.held = NOTHING;
+        self.pedals = Pedals::unheard();
         self.settling = Settling::new(now);
     }
 
@@ -178,6 +175,16 @@ impl<'a, R: Files<File = File> + Net + Clock + AllocGlobal> Panel<'a, R> {
         self.now = now;
         self.count = 0;
         self.settling = self.settling.read(now);
+    }
+
+    /// Whether what is read may press: nothing of it waited in the device.
+    pub fn is_settled(&self) -> bool {
+        self.settling.is_over()
+    }
+
+    /// A read in this round has found nothing: all that waited in the device is heard.
+    pub fn emptied(&mut self) {
+        self.settling = self.settling.emptied(self.now);
     }
 
     /// Hears bytes.
@@ -195,16 +202,27 @@ impl<'a, R: Files<File = File> + Net + Clock + AllocGlobal> Panel<'a, R> {
         if let Heard::Show(show) = heard {
             return self.take_show(show);
         }
-        let intent = intent_of(&self.setting.keys, &self.held, heard);
-        self.held = held_after(&self.setting.keys, &self.held, heard);
+        let intent = intent_of(&self.setting.keys, &self.pedals, heard);
+        let is_first = is_first_of_keys(&self.setting.keys, &self.pedals, heard);
+        self.pedals = pedals_after(&self.setting.keys, &self.pedals, heard);
         match (intent, passed_of(heard)) {
             (Some(intent), Some(passed)) => {
                 let source = passed.words(self.rt.alloc())?;
                 self.intent(source.as_str(), &intent)
             }
+            (None, Some(passed)) if is_first => self.say_first(passed),
             (None, Some(passed)) if !is_of_keys(&self.setting.keys, heard) => self.pass(passed),
             _ => Ok(()),
         }
+    }
+
+    // Says that a controller is down, and was not heard to be let go since the device was opened.
+    fn say_first(&mut self, passed: Passed) -> Result<(), AllocError> {
+        let words = passed.words(self.rt.alloc())?;
+        let words = words.as_str();
+        self.line(format_args!(
+            "{words}: nobody knows since when it is held: nothing is sent: let it go, then it presses"
+        ))
     }
 
     // Counts what is no key.
@@ -262,7 +280,7 @@ impl<'a, R: Files<File = File> + Net + Clock + AllocGlobal> Panel<'a, R> {
 
     // What an intent presses at this moment, or why it presses nothing.
     fn meant(&self, intent: &Intent) -> Result<Press, Why> {
-        meaning(self.desk.view(), self.desk.awaits(), intent)
+        meaning(self.desk.view(), self.desk.awaits(), self.passed, intent)
     }
 
     // Presses what an intent means, or says why that is nothing.
@@ -303,14 +321,17 @@ impl<'a, R: Files<File = File> + Net + Clock + AllocGlobal> Panel<'a, R> {
 
     // Notes a press that is sent.
     fn note(&mut self, button: Button, ask: u64, what: String) {
-        if matches!(button, Button::Go(_, _)) {
+        let passed = self.passed;
+        if let Button::Go(_, seq) = button {
             self.last_go = Some(self.now);
+            self.passed = Some(newest_of(&self.desk.view().live).max(seq));
         }
         self.pending = Some(Pending {
             ask,
             since: self.now,
             what,
             is_told: false,
+            passed,
         });
     }
 
@@ -326,69 +347,5 @@ impl<'a, R: Files<File = File> + Net + Clock + AllocGlobal> Panel<'a, R> {
                 self.line(format_args!("{what}: {words}"))
             }
         }
-    }
-
-    /// Hears the controller and the store, and says what became of a press.
-    pub fn round(&mut self) -> io::Result<()> {
-        self.desk.round()?;
-        self.say_pending()?;
-        self.say_dropped()?;
-        Ok(())
-    }
-
-    // What became of the press that is not told yet.
-    fn became(&self) -> Option<Became> {
-        match (&self.pending, self.desk.view().said) {
-            (Some(pending), Some(said)) if said.ask == pending.ask => Some(said.became),
-            _ => None,
-        }
-    }
-
-    // Says what became of a press, once it is settled; and that it is open, if that lasts.
-    fn say_pending(&mut self) -> Result<(), AllocError> {
-        let Some(became) = self.became() else {
-            return Ok(());
-        };
-        let Some(pending) = self.pending.take() else {
-            return Ok(());
-        };
-        let is_open = became == Became::Open;
-        let is_said = !is_open
-            || (!pending.is_told && self.now.saturating_sub(pending.since) > OPEN);
-        if is_said {
-            let words = became_words(self.rt.alloc(), became, self.setting.port)?;
-            let (what, words) = (pending.what.as_str(), words.as_str());
-            self.line(format_args!("{what}: {words}"))?;
-        }
-        if is_open {
-            let Pending {
-                ask,
-                since,
-                what,
-                is_told,
-            } = pending;
-            self.pending = Some(Pending {
-                ask,
-                since,
-                what,
-                is_told: is_said || is_told,
-            });
-        }
-        Ok(())
-    }
-
-    // Says what was dropped.
-    fn say_dropped(&mut self) -> Result<(), AllocError> {
-        if self.waited > 0 && self.settling.is_over() {
-            let waited = mem::replace(&mut self.waited, 0);
-            self.line(format_args!(
-                "{waited} presses waited in the device, nobody knows how long: dropped"
-            ))?;
-        }
-        if self.flooded > 0 && self.floods.is_due(self.now) {
-            let flooded = mem::replace(&mut self.flooded, 0);
-            self.line(format_args!("{flooded} presses more at once than fingers: dropped"))?;
-        }
-        Ok(())
     }
 }

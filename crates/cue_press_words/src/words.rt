@@ -237,6 +237,13 @@ pub fn why_words(
             let each = each.as_str();
             format!(in alloc; "more than one: {each}: name one, as `cuedesk go 12`")
         }
+        Why::Passed => {
+            let each = each_attempt(alloc, view, None)?;
+            let each = each.as_str();
+            format!(in alloc;
+                "{each}, but it stood by before the last GO: name it, as `cuedesk go 12`"
+            )
+        }
         Why::Awaited => String::from_str(
             alloc,
             "the cue that was stood by last is not shown yet: press again",

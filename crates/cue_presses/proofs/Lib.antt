@@ -1,0 +1,3 @@
+pub mod PedalLemmas
+pub mod RaceLemmas
+pub mod SettlingLemmas

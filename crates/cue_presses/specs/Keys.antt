@@ -1,11 +1,13 @@
 -- Which key of a MIDI device is pressed.
-use Rattle.std.specs.Prelude.{ℕ, Bool, false, not, ◌&&◌, ◌||◌, if◌then◌else◌, Option, None, Some, nat_eq, nat_le}
+use Rattle.std.specs.Prelude.{ℕ, Bool, true, false, ◌&&◌, ◌||◌, if◌then◌else◌, Option, None, Some, nat_eq, nat_le}
 use Rattle.cue_midi.specs.declared.heard.Heard.{Heard}
 use Rattle.cue_midi.specs.declared.heard.Heard.TheVariants as heard
-use Rattle.cue_presses.specs.declared.keys.Held.{Held}
 use Rattle.cue_presses.specs.declared.keys.Key.{Key}
 use Rattle.cue_presses.specs.declared.keys.Key.TheVariants as key
 use Rattle.cue_presses.specs.declared.keys.Keys.{Keys}
+use Rattle.cue_presses.specs.declared.keys.Pedal.{Pedal}
+use Rattle.cue_presses.specs.declared.keys.Pedal.TheVariants as pedal
+use Rattle.cue_presses.specs.declared.keys.Pedals.{Pedals}
 use Rattle.cue_presses.specs.declared.keys.TheConstants.{PRESSED}
 use Rattle.cue_presses.specs.declared.intent.Intent.{Intent}
 use Rattle.cue_presses.specs.declared.intent.Intent.TheVariants as intent
@@ -15,39 +17,63 @@ abbrev pub is_note : ℕ → Heard → Bool
 is_note n (heard.NoteOn channel note velocity) = nat_eq note n
 is_note n _ = false
 
--- a controller is pressed when it rises: it was not held
-abbrev pub rises : ℕ → Bool → Heard → Bool
-rises n is_held (heard.Controller channel number value) = (nat_eq number n && nat_le PRESSED value) && not is_held
-rises n is_held _ = false
+-- the pedal was let go
+abbrev pub is_up : Pedal → Bool
+is_up pedal.Up = true
+is_up _ = false
 
-abbrev pub is_pressed : Key → Bool → Heard → Bool
-is_pressed (key.Note n) is_held h = is_note n h
-is_pressed (key.Controller n) is_held h = rises n is_held h
+-- a controller is pressed when it rises: it was heard to be let go before
+abbrev pub rises : ℕ → Pedal → Heard → Bool
+rises n p (heard.Controller channel number value) = (nat_eq number n && nat_le PRESSED value) && is_up p
+rises n p _ = false
 
--- a controller is held from 64 on
-abbrev pub stays : ℕ → Bool → Heard → Bool
-stays n is_held (heard.Controller channel number value) = if nat_eq number n then nat_le PRESSED value else is_held
-stays n is_held _ = is_held
+abbrev pub is_pressed : Key → Pedal → Heard → Bool
+is_pressed (key.Note n) p h = is_note n h
+is_pressed (key.Controller n) p h = rises n p h
 
-abbrev pub is_held_after : Key → Bool → Heard → Bool
-is_held_after (key.Note n) is_held h = is_held
-is_held_after (key.Controller n) is_held h = stays n is_held h
+-- a pedal is down from 64 on
+abbrev pub pedal_at : ℕ → Pedal
+pedal_at value = if nat_le PRESSED value then pedal.Down else pedal.Up
+
+abbrev pub moved : ℕ → Pedal → Heard → Pedal
+moved n p (heard.Controller channel number value) = if nat_eq number n then pedal_at value else p
+moved n p _ = p
+
+abbrev pub pedal_after : Key → Pedal → Heard → Pedal
+pedal_after (key.Note n) p h = p
+pedal_after (key.Controller n) p h = moved n p h
+
+-- of a device that is opened nothing was heard
+abbrev pub unheard : Pedals
+unheard = record { standby = pedal.Unheard; go = pedal.Unheard; cancel = pedal.Unheard }
 
 -- what is wished by what is heard: the first of the three keys that is pressed
-abbrev pub intent_of : Keys → Held → Heard → Option Intent
-intent_of k held h =
-    if is_pressed k.standby held.standby h then Some (intent.Standby None)
-    else if is_pressed k.go held.go h then Some (intent.Go None)
-    else if is_pressed k.cancel held.cancel h then Some intent.Cancel else None
+abbrev pub intent_of : Keys → Pedals → Heard → Option Intent
+intent_of k p h =
+    if is_pressed k.standby p.standby h then Some (intent.Standby None)
+    else if is_pressed k.go p.go h then Some (intent.Go None)
+    else if is_pressed k.cancel p.cancel h then Some intent.Cancel else None
 
--- which keys are held then
-abbrev pub held_after : Keys → Held → Heard → Held
-held_after k held h =
+-- how the keys stand then
+abbrev pub pedals_after : Keys → Pedals → Heard → Pedals
+pedals_after k p h =
     record {
-      standby = is_held_after k.standby held.standby h;
-      go = is_held_after k.go held.go h;
-      cancel = is_held_after k.cancel held.cancel h;
+      standby = pedal_after k.standby p.standby h;
+      go = pedal_after k.go p.go h;
+      cancel = pedal_after k.cancel p.cancel h;
     }
+
+-- the first that is heard of a controller, at 64 or more
+abbrev pub begins_down : ℕ → Pedal → Heard → Bool
+begins_down n pedal.Unheard (heard.Controller channel number value) = nat_eq number n && nat_le PRESSED value
+begins_down n _ _ = false
+
+abbrev pub is_first : Key → Pedal → Heard → Bool
+is_first (key.Note n) p h = false
+is_first (key.Controller n) p h = begins_down n p h
+
+abbrev pub is_first_of_keys : Keys → Pedals → Heard → Bool
+is_first_of_keys k p h = (is_first k.standby p.standby h || is_first k.go p.go h) || is_first k.cancel p.cancel h
 
 -- ---- other keys
 

@@ -1,5 +1,6 @@
 pub mod Address
 pub mod Keys
+pub mod Laws
 pub mod Meaning
 pub mod Settling
 pub mod Taps

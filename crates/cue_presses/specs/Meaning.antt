@@ -1,5 +1,6 @@
 -- Which buttons of a view an intent presses.
 use Rattle.std.specs.Prelude.{ℕ, Bool, true, false, not, ◌&&◌, if◌then◌else◌, List, [], ◌∷◌, Option, None, Some, nat_eq}
+use Rattle.std.specs.Prelude.{max, nat_le}
 use Rattle.std.specs.Prelude.{Result, Ok, Err}
 use Rattle.std.specs.List.{list_any}
 use Rattle.cue_show.specs.Number.{same_text}
@@ -65,14 +66,26 @@ cancel_of chosen (sole.One seq cue) refusal =
     Ok (record { choose = choose_by chosen seq; button = button.Cancel cue seq })
 cancel_of chosen sole.Many refusal = Err why.Many
 
--- GO that names no cue: of the attempt that is chosen, and of no other; if none is chosen, of the only one that is
--- ready
-abbrev pub go_by : Option ℕ → List LiveAttempt → Result Press Why
-go_by None live = go_of None (sole_of wanted.Ready live) why.Nobody
-go_by (Some seq) live = go_of (Some seq) (chosen_of wanted.Ready seq live) why.NotThis
+-- the attempt was live when this desk gave its last cue, of which the newest one had this number
+abbrev pub is_passed : Option ℕ → ℕ → Bool
+is_passed None seq = false
+is_passed (Some newest) seq = nat_le seq newest
 
-abbrev pub go_alone : Option ℕ → Bool → List LiveAttempt → Result Press Why
-go_alone chosen is_awaited live = if is_awaited then Err why.Awaited else go_by chosen live
+-- GO of the only attempt that stands by, once it is ready: never of one that was live at the last GO of this desk
+abbrev pub go_sole : Option ℕ → Sole → List LiveAttempt → Result Press Why
+go_sole passed sole.Nobody live = Err why.Nobody
+go_sole passed (sole.One seq cue) live =
+    if is_passed passed seq then Err why.Passed else go_of None (chosen_of wanted.Ready seq live) why.Nobody
+go_sole passed sole.Many live = Err why.Many
+
+-- GO that names no cue: of the attempt that is chosen, and of no other; if none is chosen, of the only one that stands
+-- by, be it ready or not: so the devices' haste decides nothing
+abbrev pub go_by : Option ℕ → Option ℕ → List LiveAttempt → Result Press Why
+go_by None passed live = go_sole passed (sole_of wanted.Preparing live) live
+go_by (Some seq) passed live = go_of (Some seq) (chosen_of wanted.Ready seq live) why.NotThis
+
+abbrev pub go_alone : Option ℕ → Bool → Option ℕ → List LiveAttempt → Result Press Why
+go_alone chosen is_awaited passed live = if is_awaited then Err why.Awaited else go_by chosen passed live
 
 -- CANCEL: of the attempt that is chosen, and of no other; if none is chosen, of the only one that prepares
 abbrev pub cancel_by : Option ℕ → List LiveAttempt → Result Press Why
@@ -107,11 +120,19 @@ standby_by next.Unknown live named = Err why.NoNext
 -- ---- all of them
 
 -- what an intent presses; GO that names a cue is of the only attempt at that cue that is ready
-abbrev pub meaning : View → Bool → Intent → Result Press Why
-meaning v is_awaited (intent.Standby named) = standby_by v.next v.live.items named
-meaning v is_awaited (intent.Go None) = go_alone v.chosen is_awaited v.live.items
-meaning v is_awaited (intent.Go (Some cue)) = go_of v.chosen (sole_of (wanted.ReadyAt cue) v.live.items) why.NotThis
-meaning v is_awaited intent.Cancel = cancel_alone v.chosen is_awaited v.live.items
+abbrev pub meaning : View → Bool → Option ℕ → Intent → Result Press Why
+meaning v is_awaited passed (intent.Standby named) = standby_by v.next v.live.items named
+meaning v is_awaited passed (intent.Go None) = go_alone v.chosen is_awaited passed v.live.items
+meaning v is_awaited passed (intent.Go (Some cue)) =
+    go_of v.chosen (sole_of (wanted.ReadyAt cue) v.live.items) why.NotThis
+meaning v is_awaited passed intent.Cancel = cancel_alone v.chosen is_awaited v.live.items
+
+-- ---- the last GO of this desk
+
+-- the newest of the attempts, if there is one
+abbrev pub newest_of : List LiveAttempt → ℕ
+newest_of [] = 0
+newest_of (a ∷ others) = max a.seq (newest_of others)
 
 -- ---- waiting
 

@@ -25,8 +25,10 @@ pub enum Why {
     IsLive,
     /// No attempt is ready, or none prepares.
     Nobody,
-    /// More than one is, and none is chosen.
+    /// More than one stands by, and none is chosen.
     Many,
+    /// The only one that stands by was live already when this desk gave its last cue.
+    Passed,
     /// The cue that was named, or the attempt that is chosen, is not.
     NotThis,
     /// The attempt of the last STANDBY is not shown yet.
@@ -145,21 +147,46 @@ fn cancel_of(chosen: Option<u32>, sole: Sole, nobody: Why) -> Result<Press, Why>
     }
 }
 
-// GO that names no cue: of the chosen attempt, else of the only one that is ready.
-fn go_alone(view: &View, is_awaited: bool) -> Result<Press, Why>
-    ensures { result ≡ rule.go_alone view.now.chosen is_awaited view.now.live.items }
+// Whether the attempt was live when this desk gave its last cue.
+fn is_passed(passed: Option<u32>, seq: u32) -> bool
+    ensures { result ≡ rule.is_passed passed seq }
 {
-    let wanted = Wanted::Ready;
+    match passed {
+        Some(newest) => seq <= newest,
+        None => false,
+    }
+}
+
+// GO of the only attempt that stands by, once it is ready.
+fn go_sole(passed: Option<u32>, sole: Sole, live: &[LiveAttempt]) -> Result<Press, Why>
+    ensures { result ≡ rule.go_sole passed sole live.now }
+{
+    match sole {
+        Sole::Nobody => Err(Why::Nobody),
+        Sole::One(seq, _) => {
+            if is_passed(passed, seq) {
+                return Err(Why::Passed);
+            }
+            go_of(None, chosen_of(&Wanted::Ready, seq, live), Why::Nobody)
+        }
+        Sole::Many => Err(Why::Many),
+    }
+}
+
+// GO that names no cue: of the chosen attempt, else of the only one that stands by.
+fn go_alone(view: &View, is_awaited: bool, passed: Option<u32>) -> Result<Press, Why>
+    ensures { result ≡ rule.go_alone view.now.chosen is_awaited passed view.now.live.items }
+{
     if is_awaited {
         return Err(Why::Awaited);
     }
     match view.chosen {
         Some(seq) => go_of(
             view.chosen,
-            chosen_of(&wanted, seq, &view.live),
+            chosen_of(&Wanted::Ready, seq, &view.live),
             Why::NotThis,
         ),
-        None => go_of(view.chosen, sole_of(&wanted, &view.live), Why::Nobody),
+        None => go_sole(passed, sole_of(&Wanted::Preparing, &view.live), &view.live),
     }
 }
 
@@ -228,8 +255,14 @@ fn standby_by(view: &View, named: &Option<CueNo>) -> Result<Press, Why>
 }
 
 /// What an intent presses, by this view; else why nothing. `is_awaited`: a STANDBY of this desk awaits its attempt.
-pub fn meaning(view: &View, is_awaited: bool, intent: &Intent) -> Result<Press, Why>
-    ensures { result ≡ rule.meaning view.now is_awaited intent.now }
+/// `passed`: the newest attempt that was live when this desk gave its last cue (`newest_of`), if it gave one.
+pub fn meaning(
+    view: &View,
+    is_awaited: bool,
+    passed: Option<u32>,
+    intent: &Intent,
+) -> Result<Press, Why>
+    ensures { result ≡ rule.meaning view.now is_awaited passed intent.now }
 {
     match intent {
         Intent::Standby(named) => standby_by(view, named),
@@ -237,8 +270,18 @@ pub fn meaning(view: &View, is_awaited: bool, intent: &Intent) -> Result<Press, 
             let sole = sole_of(&Wanted::ReadyAt(*cue), &view.live);
             go_of(view.chosen, sole, Why::NotThis)
         }
-        Intent::Go(None) => go_alone(view, is_awaited),
+        Intent::Go(None) => go_alone(view, is_awaited, passed),
         Intent::Cancel => cancel_alone(view, is_awaited),
+    }
+}
+
+/// The newest of these attempts; 0 if there is none.
+pub fn newest_of(live: &[LiveAttempt]) -> u32
+    ensures { result ≡ rule.newest_of live.now }
+{
+    match live {
+        [] => 0,
+        [attempt, others @ ..] => attempt.seq.max(newest_of(others)),
     }
 }
 
@@ -263,7 +306,8 @@ fn is_hopeless_go(named: &Option<CueNo>, live: &[LiveAttempt], why: &Why) -> boo
 {
     match why {
         Why::Nobody | Why::NotThis => !may_come(named, live),
-        Why::NoNext | Why::OtherNext | Why::IsLive | Why::Many | Why::Awaited => true,
+        Why::NoNext | Why::OtherNext | Why::IsLive | Why::Many => true,
+        Why::Passed | Why::Awaited => true,
     }
 }
 

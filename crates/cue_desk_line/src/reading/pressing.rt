@@ -76,7 +76,7 @@ pub(super) const GO_COMMAND: Declared = Declared {
     arguments: &[
         Argument::OptionalWord(
             "CUE",
-            "The number of the cue, as 12.5; else it is the only one that is ready",
+            "The number of the cue, as 12.5; else it is the only one that stands by",
         ),
         STORE,
         Argument::OptionElse(

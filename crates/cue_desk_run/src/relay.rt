@@ -1,16 +1,21 @@
 //! What a relay writes of itself, as the desk reads it.
 use crate::clocks::wall_time;
+use crate::plain::text_within;
 use cue_relay::status::{STALE, Status, read};
-use std::fs::{self, File, Files};
+use std::fs::{File, Files};
 use std::io;
 use std::time::Clock;
 
-/// What the relay that writes this file reports; none if the file is no status.
+/// The most bytes of a status: one of 104 devices has less than a sixth of that.
+const MAX_STATUS: usize = 65_536;
+
+/// What the relay that writes this file reports; none if the file is no status. A longer file than
+/// any status is not read to its end, and counts as unreadable.
 pub fn read_status<R: Files<File = File> + AllocGlobal>(
     rt: &R,
     path: &str,
 ) -> io::Result<Option<Status>> {
-    let text = fs::read_to_string(rt, path)?;
+    let text = text_within(rt, path, MAX_STATUS)?;
     Ok(read(rt.alloc(), text.as_str())?)
 }
 

@@ -3,8 +3,8 @@ use cue_relay::status::{Status, written};
 use cue_relay::{Contact, Counts, Happening, Message, News, Opening, Route, Watch};
 use cue_saying::{print, say};
 use std::alloc::{AllocError, Global};
-use std::fs::{self, File, Files};
-use std::io::{Eprint, Write};
+use std::fs::{self, File, Files, OpenOptions};
+use std::io::{self, Eprint, ErrorKind, Write};
 
 /// The time between two statuses, in milliseconds.
 const STATUS_PAUSE: u64 = 1_000;
@@ -152,6 +152,24 @@ impl<'a, R: Files<File = File> + Eprint + AllocGlobal, W: Write> Reporter<'a, R,
     }
 }
 
+// Makes the file beside it anew: a link or a pipe that stands there is removed, and never followed or opened.
+fn make_beside<R: Files<File = File> + AllocGlobal>(
+    rt: &R,
+    path: &str,
+    text: &str,
+) -> io::Result<()> {
+    match fs::remove_file(rt, path) {
+        Ok(()) => {}
+        Err(why) if why.kind() == ErrorKind::NotFound => {}
+        Err(why) => return Err(why),
+    }
+    let mut options = OpenOptions::new();
+    let _ = options.write(true);
+    let _ = options.create_new(true);
+    let mut file = options.open(rt, path)?;
+    file.write_all(text.as_bytes())
+}
+
 // Replaces the file whole; whether that was done.
 fn replace<R: Files<File = File> + AllocGlobal>(
     rt: &R,
@@ -161,7 +179,7 @@ fn replace<R: Files<File = File> + AllocGlobal>(
     let Ok(text) = written(rt.alloc(), status) else {
         return false;
     };
-    fs::write(rt, file.beside.as_str(), text.as_str()).is_ok()
+    make_beside(rt, file.beside.as_str(), text.as_str()).is_ok()
         && fs::rename(rt, file.beside.as_str(), file.path).is_ok()
 }
 

@@ -1,9 +1,9 @@
 //! What the board has beside the store: the log of the evening, the status of a relay, what is told of the show file.
 use cue_board::log_lines;
-use cue_desk_run::read_status;
+use cue_desk_run::{open_plain, read_status};
 use cue_files_run::words;
 use std::alloc::{AllocError, Global};
-use std::fs::{self, File, Files};
+use std::fs::{File, Files};
 use std::io::{self, Read, Seek, SeekFrom};
 
 /// The most lines of the log that are shown.
@@ -21,7 +21,7 @@ pub fn text_of(alloc: Global, file: File, most: u64) -> io::Result<String> {
 
 // The end of a file, as text.
 fn end_of<R: Files<File = File> + AllocGlobal>(rt: &R, path: &str) -> io::Result<String> {
-    let mut file = File::open(rt, path)?;
+    let mut file = open_plain(rt, path)?;
     let len = file.metadata()?.len();
     file.seek(SeekFrom::Start(len.saturating_sub(MAX_LOG_BYTES)))?;
     text_of(rt.alloc(), file, MAX_LOG_BYTES)

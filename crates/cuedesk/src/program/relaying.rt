@@ -4,7 +4,7 @@ use cue_desk::counting::Count;
 use cue_desk::ending::Ending;
 use cue_files_run::read_file;
 use cue_relay::{Address, Relay, RelayFault, Route, run};
-use cue_relay_run::{NetSource, NetWire, Reporter, Sides, bind};
+use cue_relay_run::{NetSource, NetWire, Reporter, Sides, bind, is_in_memory};
 use cue_saying::{print, say};
 use cue_show_file::{ShowFile, routes, shared_port};
 use mio::net::UdpSocket;
@@ -131,6 +131,20 @@ fn relay_at<R: Files<File = File> + Net + Clock + Eprint + AllocGlobal, W: Write
     relayed
 }
 
+// Says that the status is on a disk, if it is: the relay writes it in its one thread.
+fn say_disk<R: Files<File = File> + Eprint + AllocGlobal>(rt: &R, status: Option<&str>) {
+    if let Some(path) = status {
+        if !is_in_memory(rt, path) {
+            say(
+                rt,
+                format_args!(
+                    "{path}: the status file is on a disk: if that hangs, the relay hangs with it: use /run"
+                ),
+            );
+        }
+    }
+}
+
 /// The command `relay`: until a signal ends it.
 pub fn relay_devices<R: Files<File = File> + Net + Clock + Eprint + AllocGlobal, W: Write>(
     rt: &R,
@@ -148,6 +162,7 @@ pub fn relay_devices<R: Files<File = File> + Net + Clock + Eprint + AllocGlobal,
     let controller = Address { host, port };
     let sides = Sides { controller, stage };
     let mut sockets = bind(rt, sides, &routes)?;
+    say_disk(rt, status);
     let relayed = relay_at(rt, (sides, &routes), &mut sockets, status, writer);
     drop(sockets);
     drop(routes);

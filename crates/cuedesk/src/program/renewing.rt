@@ -2,7 +2,7 @@
 use super::port_of;
 use cue_desk::ending::Ending;
 use cue_desk::stamps::Stamp;
-use cue_desk_run::{Beat, Desk, wall_time};
+use cue_desk_run::{Beat, Desk, text_within, wall_time};
 use cue_file_news::{Due, Kept, Later, Look, Looks, News, Reading, Trouble, later_of, told_words};
 use cue_files_run::read_file;
 use cue_show_file::{
@@ -10,7 +10,7 @@ use cue_show_file::{
 };
 use std::alloc::{AllocError, Global};
 use std::fs::{self, File, Files};
-use std::io::{self, Eprint, ErrorKind};
+use std::io::{self, Eprint};
 use std::net::Net;
 use std::time::Clock;
 
@@ -18,7 +18,7 @@ use std::time::Clock;
 const LOOK: u64 = 1_000;
 
 /// The longest file that is read, in bytes: a show file of 1,024 cues with all their parts has less than half of it.
-const MAX_LEN: u64 = 4_000_000;
+const MAX_LEN: usize = 4_000_000;
 
 /// The show file of a desk, and what is known of it since the start.
 #[derive(Drop)]
@@ -55,11 +55,7 @@ fn found_at<R: Files<File = File>>(rt: &R, path: &str) -> Look {
 
 // The text of the file. What is no file, as a pipe that nobody writes, is not opened.
 fn text_at<R: Files<File = File> + AllocGlobal>(rt: &R, path: &str) -> io::Result<String> {
-    let metadata = fs::metadata(rt, path)?;
-    if !metadata.is_file() || metadata.len() > MAX_LEN {
-        return Err(io::Error::from(ErrorKind::InvalidInput));
-    }
-    fs::read_to_string(rt, path)
+    text_within(rt, path, MAX_LEN)
 }
 
 // Whether a file has nothing: an editor that is at work may have emptied it.

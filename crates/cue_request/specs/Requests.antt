@@ -1,10 +1,10 @@
 -- Which requests are commands.
-use Rattle.std.specs.Prelude.{◌≡◌, ℕ, ◌≤◌, List, length, take, map, codes, ⊤, Option, Some, option_map}
+use Rattle.std.specs.Prelude.{◌≡◌, ℕ, ◌≤◌, false, List, length, take, map, codes, ⊤, Option, Some, option_map}
 use Rattle.std.specs.Fmt.{decimal}
 use Rattle.httparse.specs.Grammar.{ReadsRequest, RequestHead}
 use Rattle.httparse.specs.Spans.{name_and_value}
 use Rattle.cue_request.specs.Identity.{IsAskedHere, IsFromPage, IsOfOthers, IsPlayed}
-use Rattle.cue_request.specs.Fields.{only_value}
+use Rattle.cue_request.specs.Fields.{has_field, has_many, only_value}
 use Rattle.cue_request.specs.declared.identity.PageIdentity.{PageIdentity}
 use Rattle.cue_request.specs.declared.request.Head.{Head}
 use Rattle.cue_request.specs.declared.request.Asked.{Asked}
@@ -24,15 +24,20 @@ pub record IsHeadOf (head : Head) (read : RequestHead) : Type 0 where
   pub word : option_map (λ v. v.now) head.word ≡ field read (codes "cuedesk-word")
   pub length : option_map (λ v. v.now) head.length ≡ field read (codes "content-length")
   pub site : option_map (λ v. v.now) head.site ≡ field read (codes "sec-fetch-site")
+  pub many_sites : head.many_sites ≡ has_many (codes "sec-fetch-site") (map name_and_value read.fields)
+  pub is_coded : head.is_coded ≡ has_field (codes "transfer-encoding") (map name_and_value read.fields)
 
 -- Bytes begin with a head by the grammar of RFC 9112 that came to a host of the page, and from no page of another
--- origin or site.
+-- origin or site; it says once at most whose page asked, and nothing of a coding by which its body would have no length
+-- (RFC 9112, section 6.1).
 pub record IsAsked (identity : PageIdentity) (bytes : List ℕ) : Type 0 where
   pub read : RequestHead
   pub rest : List ℕ
   pub reads : ReadsRequest bytes read rest
   pub here : IsAskedHere identity (field read (codes "host")) (field read (codes "origin"))
   pub own : IsOfOthers (field read (codes "sec-fetch-site")) → ⊥
+  pub single : has_many (codes "sec-fetch-site") (map name_and_value read.fields) ≡ false
+  pub uncoded : has_field (codes "transfer-encoding") (map name_and_value read.fields) ≡ false
 
 -- A head is that of a command: our own page asks it, whose buttons are pressed, and says that its body has so many
 -- bytes.

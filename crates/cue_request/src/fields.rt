@@ -1,7 +1,7 @@
 //! The fields of a head, found by their names.
 ghost use Rattle.std.specs.Prelude.{◌≡◌, length, map, option_map, All};
 ghost use Rattle.httparse.specs.Spans.{header_bytes, IsHeaderWithin};
-ghost use Rattle.cue_request.specs.Fields.{has_field, is_named, only_value};
+ghost use Rattle.cue_request.specs.Fields.{has_field, has_many, is_named, only_value};
 
 use httparse::spans::HeaderSpan;
 
@@ -12,8 +12,8 @@ fn is_named(name: &[u8], found: &[u8]) -> bool
     found.eq_ignore_ascii_case(name)
 }
 
-// Whether one of the fields has this name.
-fn has_field(buffer: &[u8], fields: &[HeaderSpan], name: &[u8]) -> bool
+/// Whether one of the fields has this name.
+pub(crate) fn has_field(buffer: &[u8], fields: &[HeaderSpan], name: &[u8]) -> bool
     requires { All (IsHeaderWithin (length buffer.now)) fields.now }
     ensures { result ≡ has_field name.now (map (header_bytes buffer.now) fields.now) }
 {
@@ -21,6 +21,23 @@ fn has_field(buffer: &[u8], fields: &[HeaderSpan], name: &[u8]) -> bool
         [] => false,
         [field, rest @ ..] => {
             is_named(name, field.name.of(buffer)) || has_field(buffer, rest, name)
+        }
+    }
+}
+
+/// Whether more than one of the fields has this name.
+pub(crate) fn has_many(buffer: &[u8], fields: &[HeaderSpan], name: &[u8]) -> bool
+    requires { All (IsHeaderWithin (length buffer.now)) fields.now }
+    ensures { result ≡ has_many name.now (map (header_bytes buffer.now) fields.now) }
+{
+    match fields {
+        [] => false,
+        [field, rest @ ..] => {
+            if is_named(name, field.name.of(buffer)) {
+                has_field(buffer, rest, name)
+            } else {
+                has_many(buffer, rest, name)
+            }
         }
     }
 }

@@ -1,13 +1,13 @@
 //! Requests: what the head of one says, and what it is allowed.
 ghost use Rattle.std.specs.Prelude.{◌≡◌, ◌≤◌, codes, drop, length, take, map, option_map};
-ghost use Rattle.std.specs.Prelude.{All, IfSome, IfOk, Some};
+ghost use Rattle.std.specs.Prelude.{All, IfSome, IfOk, Some, false};
 ghost use Rattle.std.specs.Fmt.{decimal};
 ghost use Rattle.httparse.specs.Grammar.{ReadsRequest, RequestHead};
 ghost use Rattle.httparse.specs.Spans.{header_bytes, name_and_value, span_bytes, IsHeaderWithin, IsWithin};
 ghost use Rattle.cue_request.specs.Identity.{IsAskedHere, IsOfOthers};
 ghost use Rattle.cue_request.specs.Requests.{IsAsked, IsCommand, IsCommandHead, IsHeadOf, OnCommand};
 
-use crate::fields::only_value;
+use crate::fields::{has_field, has_many, only_value};
 use crate::identity::{PageIdentity, is_asked_here, is_from_page, is_played};
 use crate::numbers::number_in;
 use httparse::Status;
@@ -36,6 +36,10 @@ pub struct Head<'a> {
     pub length: Option<&'a [u8]>,
     /// Whose page asked, as the browser says it (Sec-Fetch-Site).
     pub site: Option<&'a [u8]>,
+    /// Whether it says that more than once.
+    pub many_sites: bool,
+    /// Whether its body is coded, so that `length` may not be its length (Transfer-Encoding).
+    pub is_coded: bool,
 }
 
 /// What a request asks of the page.
@@ -51,7 +55,7 @@ pub enum Asked {
 /// Why a request is not carried out.
 #[derive(Clone, Copy, Debug, PartialEq, Eq)]
 pub enum Refusal {
-    /// It is no head of HTTP/1.1, or its body has no length.
+    /// It is no head of HTTP/1.1, or its body has no length, or is coded.
     Unreadable,
     /// Its head is longer than `MAX_HEAD`.
     LongHead,
@@ -93,6 +97,8 @@ fn head_at<'a>(buffer: &'a [u8], fields: &[HeaderSpan], spans: &RequestSpans) ->
         word: only_value(buffer, fields, b"cuedesk-word"),
         length: only_value(buffer, fields, b"content-length"),
         site: only_value(buffer, fields, b"sec-fetch-site"),
+        many_sites: has_many(buffer, fields, b"sec-fetch-site"),
+        is_coded: has_field(buffer, fields, b"transfer-encoding"),
     }
 }
 
@@ -171,12 +177,16 @@ fn judge_reading(target: &[u8]) -> Result<Asked, Refusal>
 /// page of another site asks.
 pub fn judge(identity: &PageIdentity<'_>, head: &Head<'_>) -> Result<Asked, Refusal>
     ensures own { IfOk result (λ _. IsOfOthers (option_map (λ v. v.now) head.now.site) → ⊥) }
+    ensures single { IfOk result (λ _. head.now.many_sites ≡ false) }
+    ensures uncoded { IfOk result (λ _. head.now.is_coded ≡ false) }
     ensures here { IfOk result (λ _. IsAskedHere identity.now (option_map (λ v. v.now) head.now.host)
         (option_map (λ v. v.now) head.now.origin)) }
     ensures command { IfOk result (λ asked. OnCommand asked (IsCommandHead identity.now head.now)) }
 {
-    if !is_asked_here(identity, head.host, head.origin, head.site) {
+    if head.many_sites || !is_asked_here(identity, head.host, head.origin, head.site) {
         Err(Refusal::Foreign)
+    } else if head.is_coded {
+        Err(Refusal::Unreadable)
     } else if head.target == b"/command".as_slice() {
         judge_command(identity, head)
     } else if head.method == b"GET".as_slice() {

@@ -55,6 +55,24 @@ pub enum Asking {
     Refused(Refusal),
 }
 
+/// What a connection is answered.
+#[derive(Drop)]
+pub enum Answer {
+    /// The page, which all connections are lent.
+    Page,
+    Text(String),
+}
+
+impl Answer {
+    // Its bytes, of which these are those of the page.
+    fn bytes<'b>(&'b self, page: &'b str) -> &'b [u8] {
+        match self {
+            Answer::Page => page.as_bytes(),
+            Answer::Text(text) => text.as_bytes(),
+        }
+    }
+}
+
 /// A connection.
 #[derive(Drop)]
 pub struct Connection {
@@ -63,8 +81,10 @@ pub struct Connection {
     // What has come, and whether nothing more comes: the other side has closed its way of speaking.
     input: Vec<u8>,
     has_ended: bool,
+    // Whether the end of its head has come: until then nothing of it is read but how it begins.
+    has_head: bool,
     // What it is answered, and how much of that is sent.
-    output: String,
+    output: Answer,
     sent: usize,
     // When its stage ends at the latest, in milliseconds since the start.
     until: u64,
@@ -94,6 +114,26 @@ fn asking_in(identity: &PageIdentity<'_>, input: &[u8]) -> Option<Asking> {
     }
 }
 
+// Whether an empty line stands in these bytes: lines may end with a line feed alone, as `httparse` reads them.
+fn has_empty_line(bytes: &[u8]) -> bool {
+    bytes.windows(2).any(|two| two == b"\n\n".as_slice())
+        || bytes.windows(3).any(|three| three == b"\n\r\n".as_slice())
+}
+
+// Where what has come begins, but for ends of lines: those before a head say nothing.
+fn begins_at(input: &[u8]) -> usize {
+    let begin = input
+        .iter()
+        .position(|byte| *byte != b'\r' && *byte != b'\n');
+    begin.unwrap_or(input.len())
+}
+
+// Whether the end of a head is in the bytes that came after the first so many.
+fn ends_head(input: &[u8], before: usize) -> bool {
+    let from = begins_at(input).max(before.saturating_sub(2));
+    has_empty_line(input.get(from..).unwrap_or(&[]))
+}
+
 impl Connection {
     /// A connection that begins now.
     pub fn new(alloc: Global, stream: TcpStream, now: u64) -> Connection {
@@ -102,7 +142,8 @@ impl Connection {
             stage: Stage::Asking,
             input: Vec::new(alloc),
             has_ended: false,
-            output: String::new(alloc),
+            has_head: false,
+            output: Answer::Text(String::new(alloc)),
             sent: 0,
             until: now.saturating_add(PATIENCE),
         }
@@ -167,14 +208,27 @@ impl Connection {
         }))
     }
 
+    // What it asks after it has grown from so many bytes, if that has come whole or is refused. Until the end of its
+    // head has come, nothing is read but what came first, and what is too long.
+    fn asking_since(&mut self, identity: &PageIdentity<'_>, before: usize) -> Option<Asking> {
+        self.has_head = self.has_head || ends_head(&self.input, before);
+        let is_read = self.has_head || before == 0 || self.input.len() > MAX_HEAD;
+        if is_read {
+            asking_in(identity, &self.input)
+        } else {
+            None
+        }
+    }
+
     /// Hears what it asks, if that has come whole, is refused, came too late or has ended before. What has not grown is
-    /// not read again.
+    /// not read again, nor a head that grows until its end has come.
     pub fn hear(&mut self, identity: &PageIdentity<'_>, now: u64) -> Option<Asking> {
         if self.stage != Stage::Asking {
             return None;
         }
+        let before = self.input.len();
         let asking = match self.read_on() {
-            Ok(true) => asking_in(identity, &self.input),
+            Ok(true) => self.asking_since(identity, before),
             Ok(false) => None,
             Err(_) => {
                 self.stage = Stage::Gone;
@@ -188,7 +242,7 @@ impl Connection {
     }
 
     /// Answers it.
-    pub fn tell(&mut self, answer: String, now: u64) {
+    pub fn tell(&mut self, answer: Answer, now: u64) {
         self.output = answer;
         self.stage = Stage::Hearing;
         self.until = now.saturating_add(PATIENCE);
@@ -200,9 +254,9 @@ impl Connection {
     }
 
     // Sends as much as there is room for, and answers whether all is sent.
-    fn send_on(&mut self) -> io::Result<bool> {
+    fn send_on(&mut self, page: &str) -> io::Result<bool> {
         for _ in 0..PIECES {
-            let rest = self.output.as_bytes().get(self.sent..).unwrap_or(&[]);
+            let rest = self.output.bytes(page).get(self.sent..).unwrap_or(&[]);
             if rest.is_empty() {
                 return Ok(true);
             }
@@ -219,8 +273,8 @@ impl Connection {
     }
 
     // Sends on; if all is sent, says that nothing follows.
-    fn finish(&mut self) -> io::Result<()> {
-        if self.send_on()? {
+    fn finish(&mut self, page: &str) -> io::Result<()> {
+        if self.send_on(page)? {
             self.stream.shutdown(Shutdown::Write)?;
             self.stage = Stage::Leaving;
         }
@@ -238,10 +292,10 @@ impl Connection {
         Ok(())
     }
 
-    /// Goes on with its answer.
-    pub fn go_on(&mut self, now: u64) {
+    /// Goes on with its answer; this is the page.
+    pub fn go_on(&mut self, page: &str, now: u64) {
         let went = match self.stage {
-            Stage::Hearing => self.finish(),
+            Stage::Hearing => self.finish(page),
             Stage::Leaving => self.drain(),
             Stage::Asking | Stage::Gone => Ok(()),
         };

@@ -88,7 +88,7 @@ impl Connections {
                     Err(AllocError) => connection.leave(),
                 }
             }
-            connection.go_on(now);
+            connection.go_on(pages.page(), now);
         }
         self.open.retain(|connection| connection.is_here());
     }

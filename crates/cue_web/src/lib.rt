@@ -12,6 +12,8 @@
 //! - Who closes only its own way of speaking, as `nc` does, is answered, if its request came whole.
 //! - After an answer the rest of the request is read and dropped, for a second at most: a socket that is closed with
 //!   bytes unread resets the connection, and the answer may be lost.
+//! - A head that grows byte by byte is read when its end has come, and no more often; the page is one text, which each
+//!   connection is lent: who asks slowly, or reads nothing, costs little.
 //! - The text of the newest view is kept until the next view: ten who ask for it cost one drawing.
 //!
 //! Only tested: the connections.

@@ -1,5 +1,5 @@
 //! What the page is answered: itself, the newest view, the show file, and the view that a press has made.
-use crate::connection::{Asking, Pressed};
+use crate::connection::{Answer, Asking, Pressed};
 use cue_board::Names;
 use cue_desk_run::Desk;
 use cue_page::board::{Manner, view_text};
@@ -41,9 +41,8 @@ pub struct Pages<'a> {
     identity: PageIdentity<'a>,
     // What has become of the words of the lock.
     guard: Guard,
-    // The page with its token, and what it may do in a browser.
+    // The answer with the page and its token: it is lent to all who ask for it.
     page: String,
-    policy: String,
     beside: Beside,
     // What is told of the show file.
     told: Option<String>,
@@ -85,11 +84,18 @@ impl<'a> Pages<'a> {
         token: &str,
         beside: Beside,
     ) -> Result<Pages<'a>, AllocError> {
+        let (page, policy) = (page_text(alloc, token)?, policy(alloc)?);
+        let page = answer(
+            alloc,
+            Outcome::Done,
+            Kind::Page,
+            policy.as_str(),
+            page.as_str(),
+        )?;
         Ok(Pages {
             identity,
             guard: Guard::new(),
-            page: page_text(alloc, token)?,
-            policy: policy(alloc)?,
+            page,
             beside,
             told: None,
             drawn: None,
@@ -114,6 +120,11 @@ impl<'a> Pages<'a> {
     /// Where the page is.
     pub fn identity(&self) -> &PageIdentity<'a> {
         &self.identity
+    }
+
+    /// The answer to who asks for the page.
+    pub fn page(&self) -> &str {
+        self.page.as_str()
     }
 
     // Draws the newest view, if it is not drawn yet.
@@ -201,16 +212,14 @@ impl<'a> Pages<'a> {
         alloc: Global,
         asking: &Asking,
         now: u64,
-    ) -> Result<String, AllocError> {
-        match asking {
-            Asking::Page => {
-                let (page, policy) = (self.page.as_str(), self.policy.as_str());
-                answer(alloc, Outcome::Done, Kind::Page, policy, page)
-            }
-            Asking::View => self.view_answer(desk, alloc),
-            Asking::ShowFile => self.file_answer(desk, alloc),
-            Asking::Press(press) => self.press_answer(desk, alloc, press, now),
-            Asking::Refused(refusal) => refused_answer(alloc, *refusal),
-        }
+    ) -> Result<Answer, AllocError> {
+        let text = match asking {
+            Asking::Page => return Ok(Answer::Page),
+            Asking::View => self.view_answer(desk, alloc)?,
+            Asking::ShowFile => self.file_answer(desk, alloc)?,
+            Asking::Press(press) => self.press_answer(desk, alloc, press, now)?,
+            Asking::Refused(refusal) => refused_answer(alloc, *refusal)?,
+        };
+        Ok(Answer::Text(text))
     }
 }

@@ -3,10 +3,11 @@
 //! `read_request` reads the request at the front of what has come from a connection: the head by the grammar of RFC
 //! 9112, over the kit's `httparse`, and a body of at most 256 bytes. Its host, origin and token, and whether a page of
 //! another site asks, are looked at before anything else (`specs/Identity.antt`). A field that is there twice counts as
-//! not there. A press is the number of the view that was shown, a space, and the text of one of its buttons, as `712 go
-//! 12.5 31` for attempt 31: `specs/Requests.antt` (`IsCommand`), `specs/Presses.antt`; the lit buttons are given with
-//! these texts (`specs/Lit.antt`), and an answer is its bytes (`specs/Answers.antt`). A show may have a lock: a move of
-//! the place and a release want its word then (`specs/Locks.antt`).
+//! not there; a head that says twice whose page asked is refused, and so is one whose body is coded. A press is the
+//! number of the view that was shown, a space, and the text of one of its buttons, as `712 go 12.5 31` for attempt 31:
+//! `specs/Requests.antt` (`IsCommand`), `specs/Presses.antt`; the lit buttons are given with these texts
+//! (`specs/Lit.antt`), and an answer is its bytes (`specs/Answers.antt`). A show may have a lock: a move of the place
+//! and a release want its word then (`specs/Locks.antt`).
 //!
 //! Why it is so:
 //! - Any page that the same person has open can send requests to this machine. So a command is taken only with our own

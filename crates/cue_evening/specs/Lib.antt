@@ -3,3 +3,4 @@ pub mod AttemptWords
 pub mod Busy
 pub mod Ends
 pub mod OrderWords
+pub mod Refusals

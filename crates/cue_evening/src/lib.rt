@@ -12,6 +12,9 @@
 //!   so its lines are those of inputs that come one by one. It is a copy, since nobody else needs the states between:
 //!   the kept state is already ahead, and the draft is behind it until the engine rests.
 //! - What keeps a command from being made is looked up only if no later command of the datagram changed the state.
+//! - Anybody on this machine can have a reply refused as often as he likes. So refusals that are alike are counted, and
+//!   so is what is beyond twenty a second: the count has a line before the next other one. Alike are those with the
+//!   same line, so what is left out of the first twenty was said a moment before. No other line is ever left out.
 //! - If there is no memory for a line it is lost, and the show goes on. If there was none for a bit of the wire, the
 //!   lines of its input are lost that say what was sent.
 //!
@@ -20,12 +23,15 @@
 
 mod alone;
 mod busy;
+pub mod counts;
 mod course;
+pub mod laws;
 mod log;
 pub mod names;
 pub mod orders;
 mod page;
 pub mod reasons;
+pub mod refusals;
 pub mod replies;
 mod sent;
 mod states;

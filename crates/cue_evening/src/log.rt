@@ -5,6 +5,7 @@ use crate::course::{Cause, Course};
 use crate::orders::order_line;
 use crate::page::Page;
 use crate::reasons::{cancel_line, device_of_cancel, end_line, recovered_line, standby_line};
+use crate::refusals::is_refusal;
 use crate::replies::{Answer, cause_in};
 use crate::sent::Sent;
 use crate::states::follow;
@@ -39,12 +40,12 @@ pub struct EveningLog<'a, R: Clock + Eprint> {
 }
 
 impl<'a, R: Clock + Eprint> EveningLog<'a, R> {
-    /// It has not looked yet.
+    /// It has not looked yet. The time to its first look begins here.
     pub fn new(rt: &'a R, alloc: Global) -> EveningLog<'a, R> {
         EveningLog {
             teller: Teller {
-                rt,
                 alloc,
+                page: Page::new(rt, alloc),
                 course: Course::new(alloc),
                 last: None,
             },
@@ -56,8 +57,8 @@ impl<'a, R: Clock + Eprint> EveningLog<'a, R> {
 // Writes the lines of each input, and follows the attempts.
 #[derive(Drop)]
 struct Teller<'a, R: Clock + Eprint> {
-    rt: &'a R,
     alloc: Global,
+    page: Page<'a, R>,
     course: Course,
     /// The number of the last attempt that was seen; None before the first look.
     last: Option<u32>,
@@ -65,19 +66,27 @@ struct Teller<'a, R: Clock + Eprint> {
 
 impl<'a, R: Clock + Eprint> Teller<'a, R> {
     // The first look finds what was recovered.
-    fn begin(&mut self, page: &Page<'_, R>, state: &State) {
+    fn begin(&mut self, state: &State) {
         let live = state.live().as_slice();
         if !live.is_empty() {
-            page.write(recovered_line(self.alloc, live));
+            self.page.write(recovered_line(self.alloc, live));
         }
         self.course.follow(state);
+    }
+
+    // Writes the line of a reply, if there is something to say. A refusal may be counted in its place.
+    fn tell_reply(&mut self, answer: &Answer<'_>) {
+        if is_refusal(answer.reply.counts) {
+            self.page.refuse(answer.text(self.alloc));
+        } else if answer.is_told() {
+            self.page.write(answer.text(self.alloc));
+        }
     }
 
     // Writes a line for each reply of which there is something to say, and takes the events that its commands made.
     // Answers the events that are left.
     fn tell_replies<'b>(
         &mut self,
-        page: &Page<'_, R>,
         state: &State,
         batch: &'b [Event],
         sent: &mut Sent<'_>,
@@ -92,54 +101,54 @@ impl<'a, R: Clock + Eprint> Teller<'a, R> {
                     made,
                     state: if later.is_empty() { Some(state) } else { None },
                 };
-                if answer.is_told() {
-                    page.write(answer.text(self.alloc));
-                }
+                self.tell_reply(&answer);
             }
-            self.take_events(page, made, cause_in(reply.address.as_slice()));
+            self.take_events(made, cause_in(reply.address.as_slice()));
             rest = later;
         }
         rest
     }
 
     // Takes events, and writes a line for each attempt that is given up.
-    fn take_events(&mut self, page: &Page<'_, R>, events: &[Event], cause: Cause) {
+    fn take_events(&mut self, events: &[Event], cause: Cause) {
         for (place, event) in events.iter().enumerate() {
             if let Some((seq, reason)) = self.course.take(event, cause) {
                 let cue = self.course.cue_of(seq);
                 let device = device_of_cancel(events, place);
-                page.write(cancel_line(self.alloc, seq, cue, reason, device));
+                self.page
+                    .write(cancel_line(self.alloc, seq, cue, reason, device));
             }
         }
     }
 
     // Writes a line for each order that is sent for the first time, or for the first time since a start.
-    fn tell_orders(&self, page: &Page<'_, R>, sent: &mut Sent<'_>) {
+    fn tell_orders(&mut self, sent: &mut Sent<'_>) {
         for order in sent.orders {
             let is_first = order.is_new || self.last.is_none();
             if let (Some(is_sent), true) = (sent.take(0), is_first) {
                 let cue = self.course.cue_of(order.attempt);
-                page.write(order_line(self.alloc, order, cue, is_sent));
+                self.page.write(order_line(self.alloc, order, cue, is_sent));
             }
         }
     }
 
     // Writes a line for each attempt that began since the last look and hangs on one device.
-    fn tell_alone(&self, page: &Page<'_, R>, state: &State) {
+    fn tell_alone(&mut self, state: &State) {
         if let Some(last) = self.last {
             for attempt in state.live().as_slice() {
                 if let Some(line) = standby_line(self.alloc, last, attempt) {
-                    page.write(Ok(line));
+                    self.page.write(Ok(line));
                 }
             }
         }
     }
 
     // Writes a line for each attempt that has ended.
-    fn tell_ends(&mut self, page: &Page<'_, R>, state: &State) {
+    fn tell_ends(&mut self, state: &State) {
         for followed in self.course.as_slice() {
             if state.live().of_seq(followed.seq).is_none() {
-                page.write(end_line(self.alloc, followed, page.millis()));
+                self.page
+                    .write(end_line(self.alloc, followed, self.page.millis()));
             }
         }
         self.course.drop_ended(state);
@@ -149,16 +158,16 @@ impl<'a, R: Clock + Eprint> Teller<'a, R> {
     fn tell(&mut self, state: &State, batch: &[Event], sent: Sent<'_>)
         ensures seen { self.new.last ≡ Some state.now.last_seq }
     {
-        let page = Page::now(self.rt);
+        self.page.turn();
         if self.last.is_none() {
-            self.begin(&page, state);
+            self.begin(state);
         }
         let mut sent = sent;
-        let rest = self.tell_replies(&page, state, batch, &mut sent);
-        self.take_events(&page, rest, Cause::Unseen);
-        self.tell_orders(&page, &mut sent);
-        self.tell_alone(&page, state);
-        self.tell_ends(&page, state);
+        let rest = self.tell_replies(state, batch, &mut sent);
+        self.take_events(rest, Cause::Unseen);
+        self.tell_orders(&mut sent);
+        self.tell_alone(state);
+        self.tell_ends(state);
         self.last = Some(state.last_seq());
     }
 }

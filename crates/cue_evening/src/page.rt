@@ -1,23 +1,38 @@
 //! Where the lines of the log go.
+use crate::counts::counted_line;
+use crate::refusals::{Counted, Refusals};
 use crate::time::Time;
-use std::alloc::AllocError;
+use std::alloc::{AllocError, Global};
 use std::io::Eprint;
 use std::time::Clock;
 
-/// Standard error, at one time.
+/// Standard error, at the time of the last look. Refusals that are not told are counted here, and the line that has
+/// their number stands before the next other line.
 #[derive(Drop)]
 pub struct Page<'a, R: Clock + Eprint> {
     rt: &'a R,
+    alloc: Global,
     time: Option<Time>,
+    refusals: Refusals,
 }
 
 impl<'a, R: Clock + Eprint> Page<'a, R> {
     /// The page at the time now.
-    pub fn now(rt: &'a R) -> Page<'a, R> {
+    pub fn new(rt: &'a R, alloc: Global) -> Page<'a, R> {
         Page {
             rt,
+            alloc,
             time: Time::now(rt),
+            refusals: Refusals::new(alloc),
         }
+    }
+
+    /// The page at the time of the next look. Says how many refusals were counted, if that is due by then.
+    pub fn turn(&mut self) {
+        self.time = Time::now(self.rt);
+        let now = self.millis();
+        let due = self.refusals.take_due(now);
+        self.tell_counted(due);
     }
 
     /// The time in milliseconds since 1970; 0 if the clock has none.
@@ -30,7 +45,30 @@ impl<'a, R: Clock + Eprint> Page<'a, R> {
 
     /// Writes a line with date and time. If that fails, if the clock has no time, or if there was no memory
     /// for the line, there is none.
-    pub fn write(&self, line: Result<String, AllocError>) {
+    pub fn write(&mut self, line: Result<String, AllocError>) {
+        let counted = self.refusals.take();
+        self.tell_counted(counted);
+        self.put(line);
+    }
+
+    /// Writes the line of a refusal, or counts it.
+    pub fn refuse(&mut self, line: Result<String, AllocError>) {
+        let Ok(line) = line else {
+            return;
+        };
+        if let Ok(true) = self.refusals.hear(self.millis(), &line) {
+            self.write(Ok(line));
+        }
+    }
+
+    // Writes how many refusals were counted, if any were.
+    fn tell_counted(&self, counted: Option<Counted>) {
+        if let Some(counted) = counted {
+            self.put(counted_line(self.alloc, &counted, self.millis()));
+        }
+    }
+
+    fn put(&self, line: Result<String, AllocError>) {
         if let (Some(time), Ok(line)) = (self.time, line) {
             let _ = self
                 .rt

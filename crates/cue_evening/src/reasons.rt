@@ -5,6 +5,7 @@ ghost use Rattle.cue_evening.specs.AttemptWords.{cause_words};
 use crate::alone::named_device;
 use crate::course::{Cause, Failure, Followed};
 use crate::names::push_cue_of;
+use crate::time::push_seconds;
 use cue_core::Event;
 use cue_exchange::{Attempt, Reason};
 use cue_show::{CueNo, DeviceNo};
@@ -100,8 +101,8 @@ pub fn end_line(alloc: Global, followed: &Followed, now: u64) -> Result<String, 
     if followed.stage.is_decided() {
         push_failures(&mut text, followed.failures.as_slice())?;
     }
-    let millis = now.saturating_sub(followed.since);
-    let tenths = millis % 1000 / 100;
-    write!(text, ", {}.{tenths} s after standby", millis / 1000)?;
+    text.push_str(", ")?;
+    push_seconds(&mut text, now.saturating_sub(followed.since))?;
+    text.push_str(" after standby")?;
     Ok(text)
 }

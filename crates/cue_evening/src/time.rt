@@ -1,5 +1,7 @@
 //! A time of the machine's clock, as the log says it.
 use jiff::Timestamp;
+use std::alloc::AllocError;
+use std::fmt::Write;
 use std::time::Clock;
 
 /// A time of the machine's clock.
@@ -19,4 +21,11 @@ impl Time {
         let millis = u64::try_from(since.as_millis()).ok()?;
         Some(Time { date, millis })
     }
+}
+
+/// Writes a time of so many milliseconds in seconds and tenths, as `5.1 s`.
+pub fn push_seconds(text: &mut String, millis: u64) -> Result<(), AllocError> {
+    let tenths = millis % 1000 / 100;
+    write!(text, "{}.{tenths} s", millis / 1000)?;
+    Ok(())
 }

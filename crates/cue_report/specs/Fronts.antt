@@ -33,6 +33,7 @@ own_front said =
     if begins said (codes "cuectl: ready, ") then Some front.Ready
     else if begins said (codes "cuectl: ") then Some front.Own
     else if begins said (codes "recovered: ") then Some front.Recovered
+    else if begins said (codes "refused: ") then Some front.Counted
     else if begins said (codes "! ") || begins said (codes "turns ") then Some front.Fault
     else None
 
@@ -70,5 +71,6 @@ is_of front.Standby (entry.Alone t) = true
 is_of front.Cancel (entry.GivenUp t why) = true
 is_of front.End (entry.End t e) = true
 is_of front.Asked (entry.Replied r) = true
+is_of front.Counted (entry.Counted times said) = true
 is_of front.Fault (entry.Ended text) = true
 is_of _ _ = false

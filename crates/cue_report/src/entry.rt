@@ -43,6 +43,8 @@ pub struct Reply<'a> {
     pub code: u32,
     /// What the code says, and what is known beyond it; empty if nothing was refused.
     pub why: &'a [u8],
+    /// For how many replies the line stands: more than one where the log has counted refusals that are alike.
+    pub times: u32,
 }
 
 /// How an attempt ended.
@@ -67,6 +69,8 @@ pub enum Entry<'a> {
     /// What was live when `serve` began: a list of attempts with semicolons.
     Recovered(&'a [u8]),
     Replied(Reply<'a>),
+    /// So many refusals of several kinds were counted, and what the log says of them.
+    Counted(u32, &'a [u8]),
     Ordered(Ordered),
     /// One device alone is required in an attempt.
     Alone(Try),

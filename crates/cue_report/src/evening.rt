@@ -45,7 +45,8 @@ pub struct Done {
     pub deed: Deed,
 }
 
-/// A command that was refused.
+/// A command that was refused, or several that the log counted: then no one asked, there is no address, and the code
+/// is 0.
 #[derive(Drop)]
 pub struct Refusal {
     pub at: u64,
@@ -82,11 +83,18 @@ impl<T: Drop> Kept<T> {
         }
     }
 
-    fn push(&mut self, item: T) -> Result<(), AllocError> {
+    // Whether the next one is kept. If not, it is counted here.
+    fn has_room(&mut self) -> bool {
         if self.items.len() < MOST {
+            return true;
+        }
+        self.more = self.more.saturating_add(1);
+        false
+    }
+
+    fn push(&mut self, item: T) -> Result<(), AllocError> {
+        if self.has_room() {
             self.items.push(item)?;
-        } else {
-            self.more = self.more.saturating_add(1);
         }
         Ok(())
     }
@@ -131,6 +139,8 @@ pub struct Evening {
     pub deeds: Kept<Done>,
     pub attempts: Vec<Attempt>,
     pub refusals: Kept<Refusal>,
+    /// How many refusals there were, with those that the log counted and did not tell.
+    pub refused: u64,
 }
 
 impl Evening {
@@ -155,6 +165,7 @@ impl Evening {
             deeds: Kept::new(alloc),
             attempts: Vec::new(alloc),
             refusals: Kept::new(alloc),
+            refused: 0,
         }
     }
 }

@@ -7,7 +7,7 @@ use crate::evening::{Evening, totals_of};
 use crate::names::Names;
 use crate::sentences::{
     Told, counts_words, cue_words, deed_words, device_words, end_words, more_words, refusal_words,
-    refusals_count, remark_words, seconds_words, times_words, totals_words,
+    remark_words, seconds_words, times_words, totals_words,
 };
 use crate::text::{SECONDS, span_words, told_of};
 use crate::ungiven::ungiven;
@@ -210,7 +210,7 @@ pub fn foot(alloc: Global, evening: &Evening, names: &Names<'_>) -> Result<Strin
         counted.as_str(),
         "</p>\n",
     )?;
-    let refused = format!(in alloc; "{} refused", refusals_count(&evening.refusals))?;
+    let refused = format!(in alloc; "{} refused", evening.refused)?;
     push_element(&mut page, "<p>", refused.as_str(), "</p>\n")?;
     let lines = counts_words(alloc, evening.counts)?;
     push_element(&mut page, "<p>", lines.as_str(), "</p>\n")?;

@@ -13,7 +13,7 @@ use crate::entry::{Entry, OrderKind};
 pub use attempts::live_in;
 use attempts::{read_attempt, read_end};
 use fronts::{Front, front_of};
-use replies::read_reply;
+use replies::{read_counted, read_reply};
 use words::number_in;
 
 /// A line of the log: when it was written, in seconds since 1970, and what it says. What a fault prints has no date.
@@ -70,6 +70,7 @@ fn read_said(front: Front, said: &[u8]) -> Option<Entry<'_>>
         Front::Cancel => read_attempt(OrderKind::Cancel, said.strip_prefix(b"CANCEL ".as_slice())?),
         Front::End => read_end(said.strip_prefix(b"END ".as_slice())?),
         Front::Asked => read_reply(said),
+        Front::Counted => read_counted(said.strip_prefix(b"refused: ".as_slice())?),
         Front::Fault => None,
     }
 }

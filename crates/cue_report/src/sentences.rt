@@ -298,6 +298,9 @@ pub fn refusal_words(
     names: &Names<'_>,
     refusal: &Refusal,
 ) -> Result<String, AllocError> {
+    if refusal.by == Who::Unseen {
+        return refusal.why.clone();
+    }
     let by = who_words(alloc, names, refusal.by)?;
     format!(in alloc;
         "{}, {}: code {}, {}",
@@ -331,13 +334,6 @@ pub fn totals_words(alloc: Global, totals: Totals) -> Result<String, AllocError>
         write!(text, ", {} without an end in this log", totals.open)?;
     }
     Ok(text)
-}
-
-/// How many refusals there were.
-pub fn refusals_count(refusals: &Kept<Refusal>) -> u64 {
-    u64::try_from(refusals.items.len())
-        .unwrap_or(u64::MAX)
-        .saturating_add(refusals.more)
 }
 
 /// How many lines were read.

@@ -5,7 +5,7 @@ use crate::evening::{Evening, totals_of};
 use crate::names::Names;
 use crate::sentences::{
     Told, counts_words, course_words, cue_words, deed_words, device_words, end_words, more_words,
-    refusal_words, refusals_count, times_words, totals_words,
+    refusal_words, times_words, totals_words,
 };
 use crate::ungiven::ungiven;
 use crate::wrapping::push_line;
@@ -167,8 +167,7 @@ pub fn foot(alloc: Global, evening: &Evening, names: &Names<'_>) -> Result<Strin
         2,
         totals_words(alloc, totals_of(evening))?.as_str(),
     )?;
-    let refused = refusals_count(&evening.refusals);
-    let line = format!(in alloc; "{refused} refused")?;
+    let line = format!(in alloc; "{} refused", evening.refused)?;
     push_line(&mut text, 2, line.as_str())?;
     push_line(&mut text, 2, counts_words(alloc, evening.counts)?.as_str())?;
     Ok(text)

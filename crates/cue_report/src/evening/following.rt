@@ -10,7 +10,7 @@ use std::alloc::AllocError;
 fn is_of_run(entry: &Entry<'_>) -> bool {
     match entry {
         Entry::Ready { .. } | Entry::Recovered(_) | Entry::Replied(_) | Entry::Ordered(_) => true,
-        Entry::Alone(_) | Entry::GivenUp(_, _) | Entry::End(_, _) => true,
+        Entry::Counted(_, _) | Entry::Alone(_) | Entry::GivenUp(_, _) | Entry::End(_, _) => true,
         Entry::Stopped | Entry::Ended(_) | Entry::Said(_) => false,
     }
 }
@@ -38,6 +38,7 @@ impl Evening {
             Entry::Said(said) => self.tell(at, said),
             Entry::Recovered(list) => self.recover(at, list),
             Entry::Replied(reply) => self.reply(at, reply),
+            Entry::Counted(times, said) => self.count(at, *times, said),
             Entry::Ordered(ordered) => self.order(at, ordered),
             Entry::Alone(attempt) => {
                 let _ = self.place_of(attempt, at)?;

@@ -26,7 +26,7 @@ impl Evening {
         }
         let by = self.asking.who(reply, at);
         if reply.refused > 0 {
-            self.refuse(at, &by, reply)?;
+            self.refuse_reply(at, &by, reply)?;
         }
         if reply.made == 0 {
             return Ok(());
@@ -39,14 +39,38 @@ impl Evening {
         }
     }
 
+    // Counts a refusal that stands for so many; answers whether there is room to keep it.
+    fn refuse(&mut self, times: u32) -> bool {
+        self.refused = self.refused.saturating_add(u64::from(times));
+        self.refusals.has_room()
+    }
+
     // A command was refused.
-    fn refuse(&mut self, at: u64, by: &Who, reply: &Reply<'_>) -> Result<(), AllocError> {
+    fn refuse_reply(&mut self, at: u64, by: &Who, reply: &Reply<'_>) -> Result<(), AllocError> {
+        if !self.refuse(reply.times) {
+            return Ok(());
+        }
         let refusal = Refusal {
             at,
             by: *by,
             address: shown_bytes(self.alloc, reply.address)?,
             code: reply.code,
             why: shown_bytes(self.alloc, reply.why)?,
+        };
+        self.refusals.push(refusal)
+    }
+
+    // Refusals of several kinds were counted.
+    pub(super) fn count(&mut self, at: u64, times: u32, said: &[u8]) -> Result<(), AllocError> {
+        if !self.refuse(times) {
+            return Ok(());
+        }
+        let refusal = Refusal {
+            at,
+            by: Who::Unseen,
+            address: String::new(self.alloc),
+            code: 0,
+            why: shown_bytes(self.alloc, said)?,
         };
         self.refusals.push(refusal)
     }

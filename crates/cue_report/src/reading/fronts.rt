@@ -21,6 +21,8 @@ pub enum Front {
     End,
     /// the number of a port
     Asked,
+    /// `refused: `
+    Counted,
     /// `! ` or `turns `: what `serve` prints at its end
     Fault,
 }
@@ -62,6 +64,8 @@ fn own_front(said: &[u8]) -> Option<Front>
         Some(Front::Own)
     } else if said.starts_with(b"recovered: ".as_slice()) {
         Some(Front::Recovered)
+    } else if said.starts_with(b"refused: ".as_slice()) {
+        Some(Front::Counted)
     } else if said.starts_with(b"! ".as_slice()) || said.starts_with(b"turns ".as_slice()) {
         Some(Front::Fault)
     } else {

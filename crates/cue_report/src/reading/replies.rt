@@ -60,6 +60,29 @@ fn counts_in(text: &[u8]) -> Option<Counts<'_>> {
     }
 }
 
+/// How many refusals a line stands for, by what it says of them: one, if it does not end as in `7 times more in 1.0 s`.
+fn times_in(why: &[u8]) -> u32 {
+    if !why.ends_with(b" s") {
+        return 1;
+    }
+    let Some(at) = rfind(why, b", ") else {
+        return 1;
+    };
+    let counted = why.get(at.saturating_add(2)..).and_then(number_in);
+    match counted {
+        Some((times, rest))
+            if rest.starts_with(b" time more in ") || rest.starts_with(b" times more in ") => times,
+        _ => 1,
+    }
+}
+
+/// The line of refusals of several kinds that were counted, by what follows `refused: `.
+pub fn read_counted(text: &[u8]) -> Option<Entry<'_>>
+    ensures { IfSome result (λ entry. IsTrue (spec.is_of front.Counted entry)) }
+{
+    Some(Entry::Counted(times_in(text), text))
+}
+
 /// The line of a reply.
 pub fn read_reply(text: &[u8]) -> Option<Entry<'_>>
     ensures { IfSome result (λ entry. IsTrue (spec.is_of front.Asked entry)) }
@@ -75,5 +98,6 @@ pub fn read_reply(text: &[u8]) -> Option<Entry<'_>>
         refused: counts.refused,
         code: counts.code,
         why: counts.why,
+        times: times_in(counts.why),
     }))
 }

@@ -1,4 +1,4 @@
-//! The line of what the log counts: refusals that it did not tell.
+//! The lines of what the log counts: refusals that it did not tell, and the time for which nothing was taken.
 use crate::refusals::Counted;
 use crate::time::push_seconds;
 use std::alloc::{AllocError, Global};
@@ -14,5 +14,13 @@ pub fn counted_line(alloc: Global, counted: &Counted, now: u64) -> Result<String
     let word = if counted.times == 1 { "time" } else { "times" };
     write!(text, "{} {word} more in ", counted.times)?;
     push_seconds(&mut text, now.saturating_sub(counted.since))?;
+    Ok(text)
+}
+
+/// The line of a time, in milliseconds, in which nothing was taken.
+pub fn held_line(alloc: Global, millis: u64) -> Result<String, AllocError> {
+    let mut text = format!(in alloc; "held up for ")?;
+    push_seconds(&mut text, millis)?;
+    text.push_str(": what came in that time waited")?;
     Ok(text)
 }

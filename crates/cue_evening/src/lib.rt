@@ -15,6 +15,7 @@
 //! - Anybody on this machine can have a reply refused as often as he likes. So refusals that are alike are counted, and
 //!   so is what is beyond twenty a second: the count has a line before the next other one. Alike are those with the
 //!   same line, so what is left out of the first twenty was said a moment before. No other line is ever left out.
+//! - There is a tick four times a second. If the log did not look for more than one, it says so.
 //! - If there is no memory for a line it is lost, and the show goes on. If there was none for a bit of the wire, the
 //!   lines of its input are lost that say what was sent.
 //!
@@ -25,6 +26,7 @@ mod alone;
 mod busy;
 pub mod counts;
 mod course;
+pub mod holding;
 pub mod laws;
 mod log;
 pub mod names;

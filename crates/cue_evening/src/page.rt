@@ -1,5 +1,6 @@
 //! Where the lines of the log go.
-use crate::counts::counted_line;
+use crate::counts::{counted_line, held_line};
+use crate::holding::held_up;
 use crate::refusals::{Counted, Refusals};
 use crate::time::Time;
 use std::alloc::{AllocError, Global};
@@ -27,12 +28,19 @@ impl<'a, R: Clock + Eprint> Page<'a, R> {
         }
     }
 
-    /// The page at the time of the next look. Says how many refusals were counted, if that is due by then.
+    /// The page at the time of the next look. Says what is due by then: how many refusals were counted, and how long
+    /// there was no look.
     pub fn turn(&mut self) {
+        let before = self.time;
         self.time = Time::now(self.rt);
         let now = self.millis();
         let due = self.refusals.take_due(now);
         self.tell_counted(due);
+        if let (Some(before), Some(_)) = (before, self.time) {
+            if let Some(millis) = held_up(before.millis, now) {
+                self.write(held_line(self.alloc, millis));
+            }
+        }
     }
 
     /// The time in milliseconds since 1970; 0 if the clock has none.

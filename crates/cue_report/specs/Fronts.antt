@@ -34,6 +34,7 @@ own_front said =
     else if begins said (codes "cuectl: ") then Some front.Own
     else if begins said (codes "recovered: ") then Some front.Recovered
     else if begins said (codes "refused: ") then Some front.Counted
+    else if begins said (codes "held up for ") then Some front.HeldUp
     else if begins said (codes "! ") || begins said (codes "turns ") then Some front.Fault
     else None
 
@@ -72,5 +73,6 @@ is_of front.Cancel (entry.GivenUp t why) = true
 is_of front.End (entry.End t e) = true
 is_of front.Asked (entry.Replied r) = true
 is_of front.Counted (entry.Counted times said) = true
+is_of front.HeldUp (entry.HeldUp said) = true
 is_of front.Fault (entry.Ended text) = true
 is_of _ _ = false

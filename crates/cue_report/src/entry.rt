@@ -68,6 +68,8 @@ pub enum Entry<'a> {
     Said(&'a [u8]),
     /// What was live when `serve` began: a list of attempts with semicolons.
     Recovered(&'a [u8]),
+    /// For some time nothing was taken, and what the log says of it.
+    HeldUp(&'a [u8]),
     Replied(Reply<'a>),
     /// So many refusals of several kinds were counted, and what the log says of them.
     Counted(u32, &'a [u8]),

@@ -70,6 +70,7 @@ fn read_said(front: Front, said: &[u8]) -> Option<Entry<'_>>
         Front::Cancel => read_attempt(OrderKind::Cancel, said.strip_prefix(b"CANCEL ".as_slice())?),
         Front::End => read_end(said.strip_prefix(b"END ".as_slice())?),
         Front::Asked => read_reply(said),
+        Front::HeldUp => Some(Entry::HeldUp(said)),
         Front::Counted => read_counted(said.strip_prefix(b"refused: ".as_slice())?),
         Front::Fault => None,
     }

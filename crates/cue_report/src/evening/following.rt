@@ -10,7 +10,11 @@ use std::alloc::AllocError;
 fn is_of_run(entry: &Entry<'_>) -> bool {
     match entry {
         Entry::Ready { .. } | Entry::Recovered(_) | Entry::Replied(_) | Entry::Ordered(_) => true,
-        Entry::Counted(_, _) | Entry::Alone(_) | Entry::GivenUp(_, _) | Entry::End(_, _) => true,
+        Entry::Counted(_, _)
+        | Entry::HeldUp(_)
+        | Entry::Alone(_)
+        | Entry::GivenUp(_, _)
+        | Entry::End(_, _) => true,
         Entry::Stopped | Entry::Ended(_) | Entry::Said(_) => false,
     }
 }
@@ -35,7 +39,7 @@ impl Evening {
                 let said = shown_bytes(self.alloc, said)?;
                 self.stop(at, Deed::Ended(said))
             }
-            Entry::Said(said) => self.tell(at, said),
+            Entry::Said(said) | Entry::HeldUp(said) => self.tell(at, said),
             Entry::Recovered(list) => self.recover(at, list),
             Entry::Replied(reply) => self.reply(at, reply),
             Entry::Counted(times, said) => self.count(at, *times, said),

@@ -23,6 +23,8 @@ pub enum Front {
     Asked,
     /// `refused: `
     Counted,
+    /// `held up for `
+    HeldUp,
     /// `! ` or `turns `: what `serve` prints at its end
     Fault,
 }
@@ -66,6 +68,8 @@ fn own_front(said: &[u8]) -> Option<Front>
         Some(Front::Recovered)
     } else if said.starts_with(b"refused: ".as_slice()) {
         Some(Front::Counted)
+    } else if said.starts_with(b"held up for ".as_slice()) {
+        Some(Front::HeldUp)
     } else if said.starts_with(b"! ".as_slice()) || said.starts_with(b"turns ".as_slice()) {
         Some(Front::Fault)
     } else {

@@ -86,7 +86,7 @@ def dies(page, evening):
     page.key(" ")
     check("the space bar says why", page.shows("words", "GO is not lit: "))
     evening.serves(evening.folder)
-    check("serve there again: the cue is cancelled, and why", ends(page, "1", "cancelled: the power was lost"))
+    check("serve there again: the cue is cancelled, and why", ends(page, "1", "cancelled: the controller was started again"))
     check("STANDBY is lit again", page.waits_for(lambda: page.find("standby").is_enabled()))
     check("and no alarm", page.waits_for(lambda: not page.find("alarms").is_displayed()))
 

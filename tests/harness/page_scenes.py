@@ -195,7 +195,7 @@ def loses_power(page, evening):
     page.click("standby")
     check("GO lights", is_lit(page))
     evening.power_is_lost()
-    check("power lost before GO: the cue is cancelled, and why", ends(page, "7", "cancelled: the power was lost"))
+    check("power lost before GO: the cue is cancelled, and why", ends(page, "7", "cancelled: the controller was started again"))
     check("GO is dark", not page.find("go").is_enabled())
     page.click("standby")
     check("it is stood by again", is_lit(page, "7"))

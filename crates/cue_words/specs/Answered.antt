@@ -23,7 +23,7 @@ abbrev pub reason_words : Reason → List ℕ
 reason_words reason.Operator = codes "the operator gave it up"
 reason_words reason.Deadline = codes "ten seconds passed"
 reason_words reason.Abort = codes "a device aborted"
-reason_words reason.Power = codes "the power was lost"
+reason_words reason.Power = codes "the controller was started again"
 reason_words reason.Release = codes "a device was released"
 
 -- how an attempt ended

@@ -26,7 +26,7 @@ pub fn reason_words(reason: Reason) -> &'static str
         Reason::Operator => "the operator gave it up",
         Reason::Deadline => "ten seconds passed",
         Reason::Abort => "a device aborted",
-        Reason::Power => "the power was lost",
+        Reason::Power => "the controller was started again",
         Reason::Release => "a device was released",
     }
 }

@@ -9,7 +9,7 @@ use cue_show::DeviceNo;
 use std::alloc::AllocError;
 use std::str::from_utf8;
 
-/// What the log says of an attempt that was preparing when the power was lost.
+/// What the log says of an attempt that was preparing when `serve` ended.
 const LOST: &[u8] = b" was preparing, given up";
 
 // The device that failed, by a piece of the line of an end, and what became of it.
@@ -58,7 +58,7 @@ impl Evening {
             return Ok(());
         };
         if words == LOST {
-            return self.give_up(at, &attempt, b"the power was lost");
+            return self.give_up(at, &attempt, b"the controller was started again");
         }
         let _ = self.place_of(&attempt, at)?;
         Ok(())

@@ -5,7 +5,7 @@ use jiff::Timestamp;
 use std::alloc::{AllocError, Global};
 
 /// The length of a date as the log writes it: `2026-11-24T12:13:35Z`.
-const DATE: usize = 20;
+pub const DATE: usize = 20;
 
 // Whether the bytes stand as those of a date do; which day it is, is not looked at.
 fn has_shape(date: &[u8]) -> bool {

@@ -11,7 +11,7 @@
 //! - The log is what was said at the time, and the store has only what is left. So the report is made of the log alone;
 //!   the show file gives names, and which cues were never given.
 //! - A line that cannot be read is counted and never an error: a journal has lines of others, and a power cut may leave
-//!   half a line.
+//!   half a line. If the next start stands behind half a line, as after a full disk, it is found.
 //! - An attempt is found by its number, and the numbers of a store rise. A line that names an attempt that the log did
 //!   not see begin makes one that began before the log.
 //! - The log has whole seconds: a time between two of its lines is right to a second, and never below 0.

@@ -8,7 +8,7 @@ mod fronts;
 mod replies;
 mod words;
 
-use crate::dates::dated;
+use crate::dates::{DATE, dated};
 use crate::entry::{Entry, OrderKind};
 pub use attempts::live_in;
 use attempts::{read_attempt, read_end};
@@ -84,6 +84,32 @@ fn read_undated(line: &[u8]) -> Option<Line<'_>> {
             entry: Entry::Ended(line),
         }),
         _ => None,
+    }
+}
+
+/// The words of a start, with the end of the date before them.
+const START: &[u8] = b"Z cuectl: ready, ";
+
+// Whether it is the line of a start.
+fn is_start(line: &[u8]) -> bool {
+    match read(line) {
+        Some(said) => matches!(said.entry, Entry::Ready { .. }),
+        None => false,
+    }
+}
+
+/// The line of a start that stands behind the front of another line, which has no end; none if there is none.
+pub fn start_within(line: &[u8]) -> Option<&[u8]> {
+    if !line.last()?.is_ascii_digit() {
+        return None;
+    }
+    let words = memchr::memmem::rfind(line, START)?;
+    let date = words.checked_sub(DATE - 1)?;
+    let (front, start) = line.split_at_checked(date)?;
+    if is_start(start) && !front.is_empty() {
+        Some(start)
+    } else {
+        None
     }
 }
 

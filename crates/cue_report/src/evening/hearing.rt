@@ -1,6 +1,6 @@
 //! Hears the bytes of a log, line by line.
 use super::Evening;
-use crate::reading::{Line, read};
+use crate::reading::{Line, read, start_within};
 use std::alloc::AllocError;
 
 // A line without the sign that some programs put before its end.
@@ -63,7 +63,18 @@ impl Evening {
         }
     }
 
+    // Hears a line. If a start begins within it, the line before that was cut off, as on a full disk.
     fn hear_line(&mut self, line: &[u8]) -> Result<(), AllocError> {
+        match start_within(line) {
+            Some(start) => {
+                self.pass_over()?;
+                self.hear_whole(start)
+            }
+            None => self.hear_whole(line),
+        }
+    }
+
+    fn hear_whole(&mut self, line: &[u8]) -> Result<(), AllocError> {
         match read(line) {
             Some(said) => self.hear_said(line, &said),
             None => self.pass_over(),

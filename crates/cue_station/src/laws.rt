@@ -1,6 +1,9 @@
 //! The law of the desk. Each contract is a theorem; there is nothing to run.
+ghost use Rattle.std.specs.Prelude.{◌≡◌};
 ghost use Rattle.cue_station.specs.Examples.{LitUnheardIsRefused, OtherCueIsRefused, UnpressedIsRefused};
 ghost use Rattle.cue_station.specs.Readings.{AfterGoNothing, NoCueAfterEnd, DeadlineIsDark};
+ghost use Rattle.cue_station.specs.declared.limits.TheConstants.{COPY_MS, KEPT_VIEWS, MAX_TOLD, OTHER_MS, PRESS_MS};
+ghost use Rattle.cue_station.specs.declared.limits.TheConstants.{RELAY_MS, STATUS_MS};
 
 /// Without a place a cue is next only if none was given, and if the events tell of every attempt.
 pub fn no_cue_after_the_end()
@@ -30,4 +33,17 @@ pub fn unpressed_is_refused()
 /// A GO that is sent is that of the cue whose button was pressed.
 pub fn other_cue_is_refused()
     ensures { OtherCueIsRefused }
+{}
+
+/// What the desk stands by, in milliseconds: a copy for 1,000, a status for 2,000, a view for a press for 1,000. Another
+/// store is named after 1,000, a relay has stopped after 5,000. A press may name one of the newest 128 views, and 8
+/// attempts are told as ended.
+pub fn limits()
+    ensures copy { COPY_MS ≡ 1000 }
+    ensures status { STATUS_MS ≡ 2000 }
+    ensures press { PRESS_MS ≡ 1000 }
+    ensures views { KEPT_VIEWS ≡ 128 }
+    ensures told { MAX_TOLD ≡ 8 }
+    ensures other { OTHER_MS ≡ 1000 }
+    ensures relay { RELAY_MS ≡ 5000 }
 {}

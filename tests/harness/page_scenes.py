@@ -176,6 +176,8 @@ def fails(page, evening, pictures):
     before = sounded(page)
     page.click("go")
     check("who failed is shown", page.waits_for(lambda: "failed" in page.text("live")))
+    check("and is an alarm while the others move", page.shows("alarms", "fails: device 8")
+          and "waiting" in page.text("live"))
     check("seconds since GO are shown, large", page.waits_for(lambda: page.run(SINCE) >= 28))
     if pictures:
         page.picture(pictures / "page-failed.png")

@@ -1,12 +1,14 @@
 -- The board: what each line says of the view, from its front on. Names and notes of the show file follow after that.
 use Rattle.std.specs.Prelude.{◌≡◌, ℕ, suc, Bool, true, false, ◌==◌, nat_le, length, replicate, ◌-◌, ◌/◌, find}
 use Rattle.std.specs.Prelude.{List, [], ◌∷◌, ◌++◌, map, take, drop, codes, string_bytes}
-use Rattle.std.specs.Prelude.{Option, None, Some, if◌then◌else◌}
+use Rattle.std.specs.Prelude.{Option, None, Some, is_some, nat_eq, if◌then◌else◌}
 use Rattle.std.specs.Fmt.{decimal}
 use Rattle.std.specs.List.{flat_map}
 use Rattle.cue_exchange.specs.declared.attempt.Answer.{Answer}
 use Rattle.cue_exchange.specs.declared.attempt.Answer.TheVariants as answer
 use Rattle.cue_exchange.specs.declared.attempt.DeviceAnswer.{DeviceAnswer}
+use Rattle.cue_exchange.specs.declared.attempt.Stage.{Stage}
+use Rattle.cue_exchange.specs.declared.attempt.Stage.TheVariants as stage
 use Rattle.cue_show.specs.Number.{same_text}
 use Rattle.cue_show.specs.Show.{is_place}
 use Rattle.cue_words.specs.Answered.{answer_words, reason_words}
@@ -156,21 +158,50 @@ stack_said shown groups v =
 
 -- ---- the whole
 
--- a failure is told by the line of the attempt that ended last
-abbrev pub is_called : Alarm → Bool
-is_called (alarm.Failed q) = false
-is_called _ = true
+-- the attempt, if it is live
+abbrev pub live_of : ℕ → List LiveAttempt → Option LiveAttempt
+live_of q live = find (λ (a : LiveAttempt). nat_eq a.seq q) live
+
+-- what goes wrong in an attempt at this stage
+abbrev pub fault_at : Stage → List ℕ
+fault_at stage.Preparing = codes " prepares"
+fault_at stage.Decided = codes " fails"
+fault_at (stage.Cancelling reason) = codes " lost its standby: " ++ reason_words reason
+
+-- the devices that failed
+abbrev pub failed_devices : List DeviceAnswer → List ℕ
+failed_devices answers =
+    if length (numbers_of answer.Failed answers) == 0 then []
+    else codes ": device" ++ numbers_of answer.Failed answers
+
+-- a live attempt in which something goes wrong: its cue, what, and by which devices
+unfoldable pub fault_words : LiveAttempt → List ℕ
+fault_words a = codes "cue " ++ (a.cue ++ (fault_at a.stage ++ failed_devices a.devices))
+
+-- a failure has a line while its attempt is live; after that the line of the attempt that ended last tells it
+abbrev pub is_called : List LiveAttempt → Alarm → Bool
+is_called live (alarm.Failed q) = is_some (live_of q live)
+is_called live _ = true
 
 -- the loudest alarm that has a line
-abbrev pub loudest : List Alarm → Option Alarm
-loudest alarms = find is_called alarms
+abbrev pub loudest : View → Option Alarm
+loudest v = find (is_called v.live.items) v.alarms.items
 
-abbrev pub called : ℕ → ℕ → Option Alarm → List (List ℕ)
-called port at None = []
-called port at (Some a) = (codes "ALARM  " ++ alarm_words port at a) ∷ []
+-- the words of the live attempt, else those of the alarm
+abbrev pub fault_or : List ℕ → Option LiveAttempt → List ℕ
+fault_or words None = words
+fault_or words (Some a) = fault_words a
+
+abbrev pub words_of : ℕ → View → Alarm → List ℕ
+words_of port v (alarm.Failed q) = fault_or (alarm_words port v.at (alarm.Failed q)) (live_of q v.live.items)
+words_of port v a = alarm_words port v.at a
+
+abbrev pub called : ℕ → View → Option Alarm → List (List ℕ)
+called port v None = []
+called port v (Some a) = (codes "ALARM  " ++ words_of port v a) ∷ []
 
 abbrev pub alarm_said : ℕ → View → List (List ℕ)
-alarm_said port v = called port v.at (loudest v.alarms.items)
+alarm_said port v = called port v (loudest v)
 
 -- how old the copy is that is shown
 abbrev pub read_said : ℕ → Option ℕ → List ℕ

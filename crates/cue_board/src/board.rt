@@ -5,33 +5,37 @@ ghost use Rattle.cue_board.specs.Board as board;
 ghost use Rattle.cue_board.specs.Board.{Begin, said_of};
 ghost use Rattle.cue_board.specs.Columns.{AreFit};
 
-use crate::alarms::alarm_words;
 use crate::brief::push_live_brief;
 use crate::ends::last_line;
+use crate::faults::{live_of, words_of};
 use crate::line::{BoardLine, texts};
 use crate::live::push_live;
 use crate::names::Names;
 use crate::network::heard_lines;
 use crate::stack::{SHOWN, cues_within, push_stack};
 use crate::times::seconds;
-use cue_view::view::{Alarm, View};
+use cue_view::view::{Alarm, LiveAttempt, View};
 use std::alloc::{AllocError, Global};
 
-// Whether the alarm has a line of its own: a failure is told by the line of the attempt that ended last.
-fn is_called(alarm: Alarm) -> bool
-    ensures { result ≡ board.is_called alarm }
+// Whether the alarm has a line of its own. A failure has one while its attempt is live: after that the line of the
+// attempt that ended last tells it.
+fn is_called(live: &[LiveAttempt], alarm: Alarm) -> bool
+    ensures { result ≡ board.is_called live.now alarm }
 {
     match alarm {
-        Alarm::Failed(_) => false,
+        Alarm::Failed(seq) => live_of(seq, live).is_some(),
         _ => true,
     }
 }
 
 // The loudest alarm that has a line.
-fn loudest(alarms: &[Alarm]) -> Option<Alarm>
-    ensures { result ≡ board.loudest alarms.now }
+fn loudest(view: &View) -> Option<Alarm>
+    ensures { result ≡ board.loudest view.now }
 {
-    alarms.iter().copied().find(|alarm| is_called(*alarm))
+    view.alarms
+        .iter()
+        .copied()
+        .find(|alarm| is_called(&view.live, *alarm))
 }
 
 // Puts the line of the loudest alarm after the lines, if there is one.
@@ -44,8 +48,8 @@ fn push_alarm(
     ensures { OnOk result
         (map said_of lines.new.items ≡ map said_of lines.old.items ++ board.alarm_said port view.now) }
 {
-    if let Some(alarm) = loudest(&view.alarms) {
-        let words = alarm_words(alloc, alarm, view.at, port)?;
+    if let Some(alarm) = loudest(view) {
+        let words = words_of(alloc, view, alarm, port)?;
         let words = words.as_str();
         let said = format!(in alloc; "ALARM  {words}")?;
         lines.push(BoardLine::bare(alloc, said))?;
@@ -130,11 +134,7 @@ fn lines_of(
 
 // How many cues are shown, if the network takes so many lines.
 fn cues_in(room: Option<usize>, view: &View, taken: usize) -> usize {
-    let alarm = if loudest(&view.alarms).is_some() {
-        1
-    } else {
-        0
-    };
+    let alarm = if loudest(view).is_some() { 1 } else { 0 };
     match room {
         Some(room) => cues_within(room.saturating_sub(taken).saturating_sub(alarm), &view.live),
         None => SHOWN,

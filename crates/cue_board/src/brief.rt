@@ -35,8 +35,12 @@ fn number_of(alloc: Global, device: DeviceNo) -> Result<String, AllocError>
     Ok(format!(in alloc; " {device}")?)
 }
 
-// The numbers of the devices that have this answer.
-fn numbers_of(alloc: Global, kind: Answer, answers: &[DeviceAnswer]) -> Result<String, AllocError>
+/// The numbers of the devices that have this answer, each after a space.
+pub(crate) fn numbers_of(
+    alloc: Global,
+    kind: Answer,
+    answers: &[DeviceAnswer],
+) -> Result<String, AllocError>
     ensures { IfOk result (λ text. string_bytes text ≡ board.numbers_of kind answers.now) }
 {
     let mut numbers = String::new(alloc);

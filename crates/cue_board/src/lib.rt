@@ -9,8 +9,8 @@
 //! - If a board has few lines the stack gives way: which cue is next, each live attempt with its devices and the last
 //!   attempt are what an operator waits for. With a third of the cues before the place it stays down to one cue. If not
 //!   even that one has room, the devices of an attempt that have answered the same share a line.
-//! - There is a line for the loudest alarm alone, and for a failure none: the line of the last cue says it. On a
-//!   terminal nobody can say that a failure was seen.
+//! - There is a line for the loudest alarm alone. A failure has one while its attempt is live, with its cue and its
+//!   devices; after that the line of the last cue says it. On a terminal nobody can say that a failure was seen.
 //! - In the line of the last cue its name stands before how it ended, and has 28 columns at most, so that the end is
 //!   not cut away. A text has at most four bytes a column: marks that belong to the letter before them take no column.
 //! - A line of the log takes up to three lines: the reason stands at its end.
@@ -28,6 +28,7 @@ mod board;
 mod brief;
 mod columns;
 mod ends;
+mod faults;
 mod line;
 mod live;
 mod log;

@@ -14,3 +14,4 @@ mod TakenLemmas
 mod ViewLemmas
 mod MoveLemmas
 mod EveningLemmas
+mod SaidLemmas

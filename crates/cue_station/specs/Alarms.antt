@@ -28,7 +28,7 @@ use Rattle.cue_station.specs.Turns.{Turn}
 use Rattle.cue_station.specs.Offering.{is_offered, kept_of}
 use Rattle.cue_station.specs.Reading.{reading_of, answered_of, question_of, ended_number, ended_outcome}
 use Rattle.cue_station.specs.Network.{is_stopped}
-use Rattle.cue_station.specs.Telling.{failures_in}
+use Rattle.cue_station.specs.Faults.{failures_in}
 
 -- ---- what stands
 
@@ -110,7 +110,7 @@ differs_since [] = None
 differs_since (t ∷ past) =
     lasting (differs_by t.input.at (answered_of (t ∷ past)) (reading_of (t ∷ past))) t.input.at (differs_since past)
 
--- the failures that the newest copy tells of
+-- the attempts of the newest copy in which something went wrong
 abbrev pub failures_by : Option Reading → List ℕ
 failures_by None = []
 failures_by (Some r) = failures_in r.copy

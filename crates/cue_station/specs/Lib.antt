@@ -3,6 +3,7 @@ pub mod Reading
 pub mod Looking
 pub mod Offering
 pub mod Telling
+pub mod Faults
 pub mod Following
 pub mod Showing
 pub mod Network

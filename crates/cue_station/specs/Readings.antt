@@ -1,14 +1,20 @@
 -- What the law comes to, in single facts.
-use Rattle.std.specs.Prelude.{◌≡◌, ℕ, true, false, List, ◌∷◌, None, IsTrue}
+use Rattle.std.specs.Prelude.{◌≡◌, ℕ, true, false, List, ◌∷◌, None, Some, IsTrue, nat_eq}
+use Rattle.std.specs.List.{list_any}
 use Rattle.cue_view.specs.declared.button.Button.TheVariants as button
 use Rattle.cue_station.specs.declared.heard.Copied.{Copied}
 use Rattle.cue_view.specs.declared.view.Next.TheVariants as next
+use Rattle.cue_station.specs.declared.memory.Reading.{Reading}
 use Rattle.cue_station.specs.Turns.{Turn}
+use Rattle.cue_station.specs.Alarms.{acknowledged_of, is_acknowledged}
+use Rattle.cue_station.specs.Faults.{failing_in}
 use Rattle.cue_station.specs.Following.{next_in, has_given, tells_all}
 use Rattle.cue_station.specs.Lighting.{may}
 use Rattle.cue_station.specs.Laws.{Keeps}
 use Rattle.cue_station.specs.Offering.{is_lit}
+use Rattle.cue_station.specs.Reading.{reading_of}
 use Rattle.cue_station.specs.Sendings.{gives}
+use Rattle.cue_station.specs.Smaller.{is_failure_of}
 
 abbrev pub NoCueAfterEnd : Type 0
 NoCueAfterEnd =
@@ -22,3 +28,11 @@ abbrev pub DeadlineIsDark : Type 0
 DeadlineIsDark =
     (t : Turn) (past : List Turn) (c : List ℕ) (q : ℕ) → Keeps t past
     → IsTrue (is_lit (button.Go c q) t.view.lit.items) → IsTrue (may (t ∷ past) t.input.at t.input.wall (button.Go c q))
+
+-- what goes wrong in a live attempt has its alarm at once, unless it was seen
+abbrev pub FailingIsSaid : Type 0
+FailingIsSaid =
+    (t : Turn) (past : List Turn) (r : Reading) (q : ℕ) → Keeps t past → reading_of (t ∷ past) ≡ Some r
+    → list_any (nat_eq q) (failing_in r.copy.state.live) ≡ true
+    → is_acknowledged (acknowledged_of (t ∷ past)) q ≡ false
+    → list_any (is_failure_of q) t.view.alarms.items ≡ true

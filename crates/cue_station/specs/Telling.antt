@@ -1,8 +1,8 @@
 -- How attempts ended, by the events of the store. The oldest event stands first.
-use Rattle.std.specs.Prelude.{ℕ, Bool, true, false, not, ◌&&◌, if◌then◌else◌, List, ◌++◌, take, filter, map, reverse}
+use Rattle.std.specs.Prelude.{ℕ, Bool, true, false, not, if◌then◌else◌, List, take, filter, map, reverse}
 use Rattle.std.specs.Prelude.{Option, None, Some, find, is_some, nat_eq}
 use Rattle.std.specs.List.{filter_map, list_any}
-use Rattle.std.specs.Option.{option_map, option_and_then, option_to_list}
+use Rattle.std.specs.Option.{option_map, option_and_then}
 use Rattle.cue_exchange.specs.Live.{attempt_of}
 use Rattle.cue_exchange.specs.declared.attempt.Outcome.{Outcome}
 use Rattle.cue_exchange.specs.declared.attempt.Outcome.TheVariants as outcome
@@ -103,29 +103,3 @@ end_of es q = record { seq = q; outcome = outcome_in q es }
 -- the last attempts that started among the events and have ended
 abbrev pub past_in : Copied → List Told
 past_in c = map (λ q. told_of c.events.items (end_of c.events.items q)) (take MAX_TOLD (ended_in c))
-
--- ---- failures
-
-abbrev pub is_failure : Outcome → Bool
-is_failure outcome.Failed = true
-is_failure outcome.Complete = false
-is_failure outcome.Cancelled = false
-
--- the attempt that ended last, if it failed
-abbrev pub failed_last : Option Ended → Option ℕ
-failed_last None = None
-failed_last (Some e) = if is_failure e.outcome then Some e.seq else None
-
-abbrev pub is_number_of : ℕ → Option ℕ → Bool
-is_number_of q None = false
-is_number_of q (Some p) = nat_eq p q
-
--- the attempts of the past that failed, but for the last one
-abbrev pub failed_before : Copied → List ℕ
-failed_before c =
-    filter (λ q. is_failure (outcome_in q c.events.items) && not (is_number_of q (failed_last c.state.ended)))
-    (take MAX_TOLD (ended_in c))
-
--- the attempts that failed, of those that the copy tells of: the last one, though its events are gone, and those before
-abbrev pub failures_in : Copied → List ℕ
-failures_in c = option_to_list (failed_last c.state.ended) ++ failed_before c

@@ -6,12 +6,12 @@ ghost use Rattle.cue_station.specs.Alarms as alarms;
 ghost use Rattle.cue_station.specs.Showing.{since_in};
 ghost use Rattle.cue_view.specs.declared.view.Alarm.TheVariants as alarm;
 
+use crate::faults::one_or_none;
 use crate::heard::Copied;
 use crate::limits::{COPY_MS, OTHER_MS, STATUS_MS};
 use crate::memory::Seen;
 use crate::network::is_stopped;
 use crate::showing::since_in;
-use crate::telling::one_or_none;
 use cue_core::limits::STANDBY_MS;
 use cue_exchange::Attempt;
 use cue_show::DeviceNo;

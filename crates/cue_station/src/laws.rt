@@ -1,7 +1,7 @@
 //! The law of the desk. Each contract is a theorem; there is nothing to run.
 ghost use Rattle.std.specs.Prelude.{◌≡◌};
 ghost use Rattle.cue_station.specs.Examples.{LitUnheardIsRefused, OtherCueIsRefused, UnpressedIsRefused};
-ghost use Rattle.cue_station.specs.Readings.{AfterGoNothing, NoCueAfterEnd, DeadlineIsDark};
+ghost use Rattle.cue_station.specs.Readings.{AfterGoNothing, DeadlineIsDark, FailingIsSaid, NoCueAfterEnd};
 ghost use Rattle.cue_station.specs.declared.limits.TheConstants.{COPY_MS, KEPT_VIEWS, MAX_TOLD, OTHER_MS, PRESS_MS};
 ghost use Rattle.cue_station.specs.declared.limits.TheConstants.{RELAY_MS, STATUS_MS};
 
@@ -18,6 +18,12 @@ pub fn after_go_nothing()
 /// GO is lit for no attempt whose ten seconds are over by either clock.
 pub fn deadline_is_dark()
     ensures { DeadlineIsDark }
+{}
+
+/// A device that failed in a live attempt is an alarm in the first view that has read it, and so is a live attempt whose
+/// standby a device or the ten seconds gave up, unless it was said that this was seen.
+pub fn failing_is_said()
+    ensures { FailingIsSaid }
 {}
 
 /// A GO that is lit before anything was heard breaks it.

@@ -6,6 +6,7 @@ ghost use Rattle.cue_station.specs.Noting as noting;
 ghost use Rattle.cue_station.specs.Pacing as pacing;
 ghost use Rattle.cue_station.specs.Stepping as stepping;
 
+use crate::faults::failures_of;
 use crate::heard::{Heard, Input, Send};
 use crate::hearing::{is_copy, put_back, seen_after, take_in};
 use crate::limits::KEPT_VIEWS;
@@ -13,7 +14,6 @@ use crate::memory::{Buttons, Choice, Notes, Pace, Reading, Relayed, Seen, Shown}
 use crate::noting::{footing_by, notes_heard, notes_sent};
 use crate::pacing::{is_due, pace_heard, pace_sent};
 use crate::pressing::{order_of, refusal_of};
-use crate::telling::failures_of;
 use crate::viewing::view_of;
 use cue_desk::orders::DeskCommand;
 use cue_view::view::{Unsent, View};

@@ -1,7 +1,7 @@
 //! How attempts ended, by the events of the store.
 ghost use Rattle.std.specs.Prelude.{◌≡◌, ◌&&◌, IfOk, filter, find, is_some, map, not, take};
 ghost use Rattle.std.specs.List.{list_any};
-ghost use Rattle.std.specs.Option.{option_copied, option_to_list};
+ghost use Rattle.std.specs.Option.{option_copied};
 ghost use Rattle.cue_core.specs.Events.{is_cancel_of, is_start_of};
 ghost use Rattle.cue_exchange.specs.Live.{attempt_of};
 ghost use Rattle.cue_station.specs.Telling as telling;
@@ -115,8 +115,8 @@ fn cue_of_start(seq: u32, events: &[Event]) -> Option<CueNo>
     }
 }
 
-// Why the attempt was given up.
-fn reason_of(seq: u32, events: &[Event]) -> Option<Reason>
+/// Why the attempt was given up.
+pub(crate) fn reason_of(seq: u32, events: &[Event]) -> Option<Reason>
     ensures { result ≡ telling.reason_of seq events.now }
 {
     match cancel_in(seq, events) {
@@ -175,8 +175,8 @@ fn has_failed(seq: u32, events: &[Event]) -> bool
         .any(|event| device_failing(seq, event).is_some())
 }
 
-// How the attempt ended.
-fn outcome_in(seq: u32, events: &[Event]) -> Outcome
+/// How the attempt ended.
+pub(crate) fn outcome_in(seq: u32, events: &[Event]) -> Outcome
     ensures { result ≡ telling.outcome_in seq events.now }
 {
     if is_cancelled(seq, events) {
@@ -244,8 +244,8 @@ fn without_live(alloc: Global, numbers: &[u32], state: &State) -> Result<Vec<u32
         .collect(alloc)
 }
 
-// The numbers of the attempts that ended last, the newest first.
-fn ended_in(alloc: Global, copy: &Copied) -> Result<Vec<u32>, AllocError>
+/// The numbers of the attempts that ended last, the newest first.
+pub(crate) fn ended_in(alloc: Global, copy: &Copied) -> Result<Vec<u32>, AllocError>
     ensures { IfOk result (λ numbers. numbers.items ≡ take MAX_TOLD (telling.ended_in copy.now)) }
 {
     let started = started_in(alloc, &copy.events)?;
@@ -283,80 +283,4 @@ pub fn past_of(alloc: Global, copy: &Copied) -> Result<Vec<Told>, AllocError>
     let numbers = ended_in(alloc, copy)?;
     let past = told_each(alloc, copy, numbers.as_slice())?;
     Ok(past)
-}
-
-// Whether the attempt failed, by the events.
-fn is_failed(seq: u32, events: &[Event]) -> bool
-    ensures { result ≡ telling.is_failure (telling.outcome_in seq events.now) }
-{
-    match outcome_in(seq, events) {
-        Outcome::Failed => true,
-        Outcome::Complete | Outcome::Cancelled => false,
-    }
-}
-
-// The number of the attempt that ended last, if it failed.
-fn failed_last(state: &State) -> Option<u32>
-    ensures { result ≡ telling.failed_last state.now.ended }
-{
-    match state.ended() {
-        Some(ended) => match ended.outcome {
-            Outcome::Failed => Some(ended.seq),
-            Outcome::Complete | Outcome::Cancelled => None,
-        },
-        None => None,
-    }
-}
-
-// Whether the number is that one.
-fn is_number_of(seq: u32, last: Option<u32>) -> bool
-    ensures { result ≡ telling.is_number_of seq last }
-{
-    match last {
-        Some(other) => seq == other,
-        None => false,
-    }
-}
-
-// Those of the numbers that failed by the events, but for the last one.
-fn failed_of(
-    alloc: Global,
-    events: &[Event],
-    last: Option<u32>,
-    numbers: &[u32],
-) -> Result<Vec<u32>, AllocError>
-    ensures { IfOk result (λ rest. rest.items ≡ filter
-        (λ q. telling.is_failure (telling.outcome_in q events.now) && not (telling.is_number_of q last)) numbers.now) }
-{
-    numbers
-        .iter()
-        .copied()
-        .filter(|seq| is_failed(*seq, events) && !is_number_of(*seq, last))
-        .collect(alloc)
-}
-
-/// The number as a list, if there is one.
-pub(crate) fn one_or_none(alloc: Global, last: Option<u32>) -> Result<Vec<u32>, AllocError>
-    ensures { IfOk result (λ numbers. numbers.items ≡ option_to_list last) }
-{
-    let mut numbers = Vec::new(alloc);
-    match last {
-        Some(seq) => {
-            numbers.push(seq)?;
-            Ok(numbers)
-        }
-        None => Ok(numbers),
-    }
-}
-
-/// The attempts that failed, of those that are told: the last one, and those of the past.
-pub fn failures_of(alloc: Global, copy: &Copied) -> Result<Vec<u32>, AllocError>
-    ensures { IfOk result (λ numbers. numbers.items ≡ telling.failures_in copy.now) }
-{
-    let numbers = ended_in(alloc, copy)?;
-    let last = failed_last(&copy.state);
-    let before = failed_of(alloc, &copy.events, last, &numbers)?;
-    let mut all = one_or_none(alloc, last)?;
-    all.extend_from_slice(&before)?;
-    Ok(all)
 }

@@ -140,7 +140,7 @@ pub enum Alarm {
     Old(Option<u64>),
     /// The ten seconds of the attempt are over by the clock that never goes back, and not by that of the wall.
     ClockPutBack(u32),
-    /// The attempt failed, and nobody has said that it was seen.
+    /// A device failed in the attempt, or its standby was lost, and nobody has said that it was seen. It may be live.
     Failed(u32),
     /// The relay calls the device silent.
     DeviceSilent(DeviceNo),

@@ -11,7 +11,18 @@ function endWords(told) {
   return cueWords(told) + ": " + told.outcome + (told.reason ? ": " + told.reason : "") + failed + without;
 }
 
+// What goes wrong in a cue that is live: the others of its devices may still move.
+function faultWords(attempt) {
+  const failed = attempt.devices.filter((one) => one.answer === "failed").map((one) => one.device);
+  const fault = attempt.reason ? " lost its standby: " + attempt.reason : " fails", waits = waitedFor(attempt);
+  const how = attempt.reason ? " aborted" : " aborted, or was released";
+  const rest = waits.length ? "; still waiting for " + devicesWords(waits) : "";
+  return cueWords(attempt) + fault + (failed.length ? ": device " + devicesWords(failed) + how : "") + rest;
+}
+
 function alarmWords(alarm) {
+  const live = alarm.kind === "failed" && view.live.find((one) => one.attempt === alarm.of);
+  if (live) return faultWords(live);
   const told = alarm.kind === "failed" && [view.last, ...view.past].find((one) => one && one.attempt === alarm.of);
   if (told) return endWords(told);
   return alarm.kind === "device" ? "device " + called(alarm.of, deviceName(alarm.of)) + " is silent" : alarm.words;

@@ -1,0 +1,168 @@
+//! What went wrong in attempts: a device failed, or the standby was lost. Both are said as soon as a copy shows them,
+//! also while the attempt is live, and by the same number once it has ended.
+ghost use Rattle.std.specs.Prelude.{◌≡◌, ◌&&◌, IfOk, filter, not};
+ghost use Rattle.std.specs.Option.{option_to_list};
+ghost use Rattle.cue_station.specs.Faults as faults;
+
+use crate::heard::Copied;
+use crate::telling::{ended_in, outcome_in, reason_of};
+use cue_core::{Ended, Event};
+use cue_exchange::{Answer, Attempt, DeviceAnswer, Outcome, Reason, Stage};
+use std::alloc::{AllocError, Global};
+
+// Whether nobody gave the preparation up: a device did, or its ten seconds.
+fn is_lost_by(reason: Reason) -> bool
+    ensures { result ≡ faults.is_lost_by reason }
+{
+    match reason {
+        Reason::Abort | Reason::Deadline => true,
+        Reason::Operator | Reason::Power | Reason::Release => false,
+    }
+}
+
+// The same, if it was given up.
+fn is_lost(why: Option<Reason>) -> bool
+    ensures { result ≡ faults.is_lost why }
+{
+    match why {
+        Some(reason) => is_lost_by(reason),
+        None => false,
+    }
+}
+
+// Whether the device cannot go on.
+fn is_failed(answer: Answer) -> bool
+    ensures { result ≡ faults.is_failed answer }
+{
+    match answer {
+        Answer::Failed => true,
+        Answer::Waiting | Answer::Ready | Answer::Done => false,
+        Answer::LetGo | Answer::Excused => false,
+    }
+}
+
+// Whether one of the devices cannot go on.
+fn has_failed(answers: &[DeviceAnswer]) -> bool
+    ensures { result ≡ faults.has_failed answers.now }
+{
+    answers.iter().any(|answer| is_failed(answer.answer))
+}
+
+// Whether something went wrong in the live attempt.
+fn is_failing(attempt: &Attempt) -> bool
+    ensures { result ≡ faults.is_failing attempt.now }
+{
+    match attempt.stage {
+        Stage::Preparing => false,
+        Stage::Decided => has_failed(attempt.answers.as_slice()),
+        Stage::Cancelling(reason) => is_lost_by(reason),
+    }
+}
+
+// The live attempts in which something went wrong.
+fn failing_in(alloc: Global, live: &[Attempt]) -> Result<Vec<u32>, AllocError>
+    ensures { IfOk result (λ numbers. numbers.items ≡ faults.failing_in live.now) }
+{
+    live.iter()
+        .filter(|attempt| is_failing(attempt))
+        .map(|attempt| attempt.seq)
+        .collect(alloc)
+}
+
+// Whether something went wrong in an attempt that ended so.
+fn is_fault(outcome: Outcome, why: Option<Reason>) -> bool
+    ensures { result ≡ faults.is_fault outcome why }
+{
+    match outcome {
+        Outcome::Failed => true,
+        Outcome::Complete => false,
+        Outcome::Cancelled => is_lost(why),
+    }
+}
+
+// The number of the attempt that ended last, if something went wrong in it.
+fn failed_last(events: &[Event], ended: Option<Ended>) -> Option<u32>
+    ensures { result ≡ faults.failed_last events.now ended }
+{
+    match ended {
+        Some(ended) => {
+            if is_fault(ended.outcome, reason_of(ended.seq, events)) {
+                Some(ended.seq)
+            } else {
+                None
+            }
+        }
+        None => None,
+    }
+}
+
+// Whether the number is that one.
+fn is_number_of(seq: u32, last: Option<u32>) -> bool
+    ensures { result ≡ faults.is_number_of seq last }
+{
+    match last {
+        Some(other) => seq == other,
+        None => false,
+    }
+}
+
+// Whether something went wrong in the attempt, by the events.
+fn is_fault_in(seq: u32, events: &[Event]) -> bool
+    ensures { result ≡ faults.is_fault_in seq events.now }
+{
+    is_fault(outcome_in(seq, events), reason_of(seq, events))
+}
+
+// Those of the numbers in which something went wrong by the events, but for the last one.
+fn failed_of(
+    alloc: Global,
+    events: &[Event],
+    last: Option<u32>,
+    numbers: &[u32],
+) -> Result<Vec<u32>, AllocError>
+    ensures { IfOk result (λ rest. rest.items
+        ≡ filter (λ q. faults.is_fault_in q events.now && not (faults.is_number_of q last)) numbers.now) }
+{
+    numbers
+        .iter()
+        .copied()
+        .filter(|seq| is_fault_in(*seq, events) && !is_number_of(*seq, last))
+        .collect(alloc)
+}
+
+// The attempts that have ended in which something went wrong: the last one, and those of the past.
+fn failed_in(alloc: Global, copy: &Copied) -> Result<Vec<u32>, AllocError>
+    ensures { IfOk result (λ numbers. numbers.items ≡ faults.failed_in copy.now) }
+{
+    let numbers = ended_in(alloc, copy)?;
+    let last = failed_last(&copy.events, copy.state.ended());
+    let before = failed_of(alloc, &copy.events, last, &numbers)?;
+    let mut all = one_or_none(alloc, last)?;
+    all.extend_from_slice(&before)?;
+    Ok(all)
+}
+
+/// The number as a list, if there is one.
+pub(crate) fn one_or_none(alloc: Global, last: Option<u32>) -> Result<Vec<u32>, AllocError>
+    ensures { IfOk result (λ numbers. numbers.items ≡ option_to_list last) }
+{
+    let mut numbers = Vec::new(alloc);
+    match last {
+        Some(seq) => {
+            numbers.push(seq)?;
+            Ok(numbers)
+        }
+        None => Ok(numbers),
+    }
+}
+
+/// The attempts in which something went wrong, of those that the copy tells of: those that are live, the one that ended
+/// last, and those of the past.
+pub fn failures_of(alloc: Global, copy: &Copied) -> Result<Vec<u32>, AllocError>
+    ensures { IfOk result (λ numbers. numbers.items ≡ faults.failures_in copy.now) }
+{
+    let mut all = failing_in(alloc, copy.state.live().as_slice())?;
+    let ended = failed_in(alloc, copy)?;
+    all.extend_from_slice(&ended)?;
+    Ok(all)
+}

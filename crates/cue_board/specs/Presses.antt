@@ -24,6 +24,7 @@ nobody_words port = codes "not carried out: nobody listens at 127.0.0.1:" ++ dec
 abbrev pub plain_words : Became → List ℕ
 plain_words became.Made = codes "made"
 plain_words became.Known = codes "it was so already"
+plain_words became.Over = codes "it was made, and the cue stands by no more"
 plain_words became.Carried = codes "no reply came; the store shows that it was carried out"
 plain_words became.Lost = codes "no reply came; the store shows that it was not carried out"
 plain_words became.Unknown = codes "no reply came, and the store does not show it: look at the devices"

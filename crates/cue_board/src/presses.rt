@@ -36,6 +36,7 @@ fn plain_words(became: Became) -> &'static str
     match became {
         Became::Made => "made",
         Became::Known => "it was so already",
+        Became::Over => "it was made, and the cue stands by no more",
         Became::Carried => "no reply came; the store shows that it was carried out",
         Became::Lost => "no reply came; the store shows that it was not carried out",
         Became::Unknown => "no reply came, and the store does not show it: look at the devices",

@@ -14,6 +14,7 @@ kind_of became.Open = codes "open"
 kind_of became.Made = codes "made"
 kind_of became.Known = codes "made"
 kind_of became.Carried = codes "made"
+kind_of became.Over = codes "over"
 kind_of _ = codes "refused"
 
 -- a press that was sent: by which ask, what it was, and what became of it

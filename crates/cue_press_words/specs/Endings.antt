@@ -10,6 +10,7 @@ abbrev pub ending_by : Became → Option Ending
 ending_by became.Made = None
 ending_by became.Known = None
 ending_by became.Carried = None
+ending_by became.Over = None
 ending_by (became.Refused code) = Some ending.Refused
 ending_by (became.Partly code) = Some ending.Refused
 ending_by became.Nobody = Some ending.Silent

@@ -10,7 +10,7 @@ pub fn ending_by(became: Became) -> Option<Ending>
     ensures { result ≡ ending_by became }
 {
     match became {
-        Became::Made | Became::Known | Became::Carried => None,
+        Became::Made | Became::Known | Became::Over | Became::Carried => None,
         Became::Refused(_) | Became::Partly(_) => Some(Ending::Refused),
         Became::Nobody | Became::Open | Became::Lost | Became::Unknown => Some(Ending::Silent),
     }

@@ -2,11 +2,12 @@
 use Rattle.std.specs.Prelude.{ℕ, ℤ, pos, Bool, true, false, not, ◌&&◌, ◌||◌, if◌then◌else◌, List, [], ◌∷◌, ◌++◌, map}
 use Rattle.std.specs.Prelude.{Option, None, Some, is_some, is_none, nat_eq, nat_le, nat_lt}
 use Rattle.std.specs.List.{list_any, list_all}
-use Rattle.std.specs.Option.{option_map}
+use Rattle.std.specs.Option.{option_map, option_map_or}
 use Rattle.std.specs.Ordering.{int_eq}
 use Rattle.cue_exchange.specs.Answers.{is_decided, is_cancelling}
 use Rattle.cue_exchange.specs.Steps.{holds}
 use Rattle.cue_exchange.specs.Live.{attempt_of, attempt_of_cue}
+use Rattle.cue_exchange.specs.declared.attempt.Attempt.{Attempt}
 use Rattle.cue_core.specs.Events.{is_start_of, is_go_of, is_cancel_of}
 use Rattle.cue_desk.specs.declared.replying.Replied.{Replied}
 use Rattle.cue_desk.specs.declared.replying.Replied.TheVariants as replied
@@ -148,15 +149,6 @@ became_by (Some w) settled = w.became
 became_by None (Some shown) = shown
 became_by None None = became.Open
 
-abbrev pub said_by : Pending → Said
-said_by p = record { ask = p.ask; button = p.button; became = became_by p.answer p.settled }
-
--- what is said of the last press that was sent
-abbrev pub said_of : List Turn → Option Said
-said_of turns = option_map said_by (newest_of (presses_of turns))
-
--- ---- which presses are open
-
 -- a copy was begun after the answer came
 abbrev pub is_read_after : Option Word → Option Reading → Bool
 is_read_after None r = false
@@ -166,6 +158,39 @@ is_read_after (Some w) (Some r) = nat_le w.at r.at
 -- A press is open until it is answered and a copy was begun after that, or until a copy settles it.
 abbrev pub is_open : Option Reading → Pending → Bool
 is_open r p = not (is_read_after p.answer r) && is_none p.settled
+
+-- it was carried out, or was so already
+abbrev pub is_done : Became → Bool
+is_done became.Made = true
+is_done became.Known = true
+is_done became.Carried = true
+is_done _ = false
+
+-- an attempt of the cue is live, and is not given up
+abbrev pub stands : List ℕ → Copied → Bool
+stands cue c =
+    option_map_or (λ (a : Attempt). not (is_cancelling a.stage)) (attempt_of_cue c.state.live cue) false
+
+-- the newest copy has the cue of a STANDBY standing by no more
+abbrev pub has_ended : Button → Option Reading → Bool
+has_ended (button.Standby cue) (Some r) = not (stands cue r.copy)
+has_ended _ r = false
+
+-- a STANDBY that was made is over once a copy that was begun after that has its cue standing by no more
+abbrev pub is_over : Option Reading → Pending → Bool
+is_over r p = is_done (became_by p.answer p.settled) && (not (is_open r p) && has_ended p.button r)
+
+abbrev pub became_now : Option Reading → Pending → Became
+became_now r p = if is_over r p then became.Over else became_by p.answer p.settled
+
+abbrev pub said_by : Option Reading → Pending → Said
+said_by r p = record { ask = p.ask; button = p.button; became = became_now r p }
+
+-- what is said of the last press that was sent
+abbrev pub said_of : List Turn → Option Said
+said_of turns = option_map (said_by (reading_of turns)) (newest_of (presses_of turns))
+
+-- ---- which presses are open
 
 -- no press is open
 abbrev pub is_quiet : List Turn → Bool

@@ -96,7 +96,7 @@ pub record IsView (n : Notes) (r : Option Reading) (relay : Option Relayed) (see
   pub served : v.served ≡ asked_at n.answered
   pub chosen : v.chosen ≡ f.chosen
   pub back : v.back ≡ back_by n.moved (place_by r)
-  pub said : v.said ≡ option_map said_by n.press
+  pub said : v.said ≡ option_map (said_by r) n.press
   pub copy : ShowsReading f.stands (since_in seen) (given_in seen) f.at f.wall v r
   pub lit : LightsBy f seen r v.stack.items v.alarms.items v.lit.items
   pub network : v.network.items ≡ network_by relay f.at

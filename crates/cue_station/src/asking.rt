@@ -15,7 +15,7 @@ use cue_core::{Event, State};
 use cue_desk::replying::Replied;
 use cue_show::CueNo;
 use cue_view::button::Button;
-use cue_view::view::{Became, Said};
+use cue_view::view::Became;
 
 // Whether a number of a reply is this one.
 fn is_count(told: i32, count: u8) -> bool
@@ -306,31 +306,6 @@ pub(crate) fn followed_on(
 {
     match pending {
         Some(pending) => Some(followed(pending, at, heard, answered, reading)),
-        None => None,
-    }
-}
-
-// What became of a press.
-fn became_by(answer: Option<Word>, settled: Option<Became>) -> Became
-    ensures { result ≡ asking.became_by answer settled }
-{
-    match (answer, settled) {
-        (Some(word), _) => word.became,
-        (None, Some(shown)) => shown,
-        (None, None) => Became::Open,
-    }
-}
-
-/// What is said of a press, if there is one.
-pub(crate) fn said_by(pending: &Option<Pending>) -> Option<Said>
-    ensures { result ≡ option_map asking.said_by pending.now }
-{
-    match pending {
-        Some(pending) => Some(Said {
-            ask: pending.ask,
-            button: pending.button,
-            became: became_by(pending.answer, pending.settled),
-        }),
         None => None,
     }
 }

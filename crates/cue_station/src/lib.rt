@@ -17,6 +17,7 @@
 //! - A press without a reply is open until a copy was begun after a status came that was asked after the press: then
 //!   the store shows what became of it. While a press is open no other one may be sent, but for CANCEL, which is the
 //!   safe way.
+//! - That a STANDBY was made is said while its cue stands by. Once it was given up, or has ended, that is said.
 //! - What came to a socket before it was opened is nothing; the answer of a press is the first that comes after it was
 //!   sent.
 //! - The way back after a move is offered only while the move was the last press and the place is where it left it:
@@ -59,6 +60,7 @@ pub mod opening;
 pub mod pacing;
 pub mod pressing;
 pub mod remembering;
+pub mod saying;
 pub mod showing;
 pub mod station;
 pub mod telling;

@@ -7,7 +7,6 @@ ghost use Rattle.cue_station.specs.Showing.{since_in};
 ghost use Rattle.cue_station.specs.Viewing as viewing;
 
 use crate::alarms::{Facts, alarms_of, put_back_in};
-use crate::asking::said_by;
 use crate::following::next_in;
 use crate::heard::Copied;
 use crate::lighting::{Footing, asked_at, read_at};
@@ -15,6 +14,7 @@ use crate::lit::lit_of;
 use crate::memory::{Notes, Reading, Relayed, Seen};
 use crate::moving::{back_by, place_by};
 use crate::network::network_in;
+use crate::saying::said_by;
 use crate::showing::{live_of, stack_of};
 use crate::telling::{last_of, past_of};
 use cue_show::CueNo;
@@ -222,7 +222,7 @@ pub(crate) fn view_of(
         live,
         chosen: footing.chosen,
         lit,
-        said: said_by(&notes.press),
+        said: said_by(&notes.press, reading),
         unsent: None,
         last,
         past,

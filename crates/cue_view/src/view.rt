@@ -82,6 +82,8 @@ pub enum Became {
     Open,
     Made,
     Known,
+    /// A STANDBY that was made, of a cue that stands by no more.
+    Over,
     Refused(i32),
     /// Of several cues some were stood by, and others not, by this code.
     Partly(i32),

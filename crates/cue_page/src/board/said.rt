@@ -16,6 +16,7 @@ fn kind_of(became: Became) -> &'static str
     match became {
         Became::Open => "open",
         Became::Made | Became::Known | Became::Carried => "made",
+        Became::Over => "over",
         Became::Refused(_) | Became::Partly(_) => "refused",
         Became::Nobody | Became::Lost | Became::Unknown => "refused",
     }

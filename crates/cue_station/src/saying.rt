@@ -1,0 +1,89 @@
+//! What is said of the last press that was sent. That a STANDBY was made is said while its cue stands by: a green line
+//! of a standby that was lost would be believed.
+ghost use Rattle.std.specs.Prelude.{◌≡◌, not};
+ghost use Rattle.std.specs.Option.{option_map, option_map_or};
+ghost use Rattle.cue_exchange.specs.Answers.{is_cancelling};
+ghost use Rattle.cue_exchange.specs.Live.{attempt_of_cue};
+ghost use Rattle.cue_station.specs.Asking as asking;
+
+use crate::heard::Copied;
+use crate::memory::{Pending, Reading, Word};
+use crate::opening::is_open;
+use cue_show::CueNo;
+use cue_view::button::Button;
+use cue_view::view::{Became, Said};
+
+// What became of a press.
+fn became_by(answer: Option<Word>, settled: Option<Became>) -> Became
+    ensures { result ≡ asking.became_by answer settled }
+{
+    match (answer, settled) {
+        (Some(word), _) => word.became,
+        (None, Some(shown)) => shown,
+        (None, None) => Became::Open,
+    }
+}
+
+// Whether it was carried out, or was so already.
+fn is_done(became: Became) -> bool
+    ensures { result ≡ asking.is_done became }
+{
+    match became {
+        Became::Made | Became::Known | Became::Carried => true,
+        Became::Open | Became::Over | Became::Refused(_) | Became::Partly(_) => false,
+        Became::Nobody | Became::Lost | Became::Unknown => false,
+    }
+}
+
+// Whether an attempt of the cue is live, and is not given up.
+fn stands(cue: CueNo, copy: &Copied) -> bool
+    ensures { result ≡ asking.stands cue copy.now }
+{
+    match copy.state.live().of_cue(cue) {
+        Some(attempt) => !attempt.stage.is_cancelling(),
+        None => false,
+    }
+}
+
+// Whether the newest copy has the cue of a STANDBY standing by no more.
+fn has_ended(button: Button, reading: &Option<Reading>) -> bool
+    ensures { result ≡ asking.has_ended button reading.now }
+{
+    match (button, reading) {
+        (Button::Standby(cue), Some(reading)) => !stands(cue, &reading.copy),
+        _ => false,
+    }
+}
+
+// Whether it is a STANDBY that was made, and a copy that was begun after that has its cue standing by no more.
+fn is_over(pending: &Pending, reading: &Option<Reading>) -> bool
+    ensures { result ≡ asking.is_over reading.now pending.now }
+{
+    is_done(became_by(pending.answer, pending.settled))
+        && (!is_open(pending, reading) && has_ended(pending.button, reading))
+}
+
+// What became of a press, by what is known now.
+fn became_now(pending: &Pending, reading: &Option<Reading>) -> Became
+    ensures { result ≡ asking.became_now reading.now pending.now }
+{
+    if is_over(pending, reading) {
+        Became::Over
+    } else {
+        became_by(pending.answer, pending.settled)
+    }
+}
+
+/// What is said of a press, if there is one.
+pub(crate) fn said_by(pending: &Option<Pending>, reading: &Option<Reading>) -> Option<Said>
+    ensures { result ≡ option_map (asking.said_by reading.now) pending.now }
+{
+    match pending {
+        Some(pending) => Some(Said {
+            ask: pending.ask,
+            button: pending.button,
+            became: became_now(pending, reading),
+        }),
+        None => None,
+    }
+}

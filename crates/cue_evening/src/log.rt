@@ -145,10 +145,10 @@ impl<'a, R: Clock + Eprint> Teller<'a, R> {
 
     // Writes a line for each attempt that has ended.
     fn tell_ends(&mut self, state: &State) {
+        let now = self.page.millis();
         for followed in self.course.as_slice() {
             if state.live().of_seq(followed.seq).is_none() {
-                self.page
-                    .write(end_line(self.alloc, followed, self.page.millis()));
+                self.page.write(end_line(self.alloc, followed, now));
             }
         }
         self.course.drop_ended(state);

@@ -64,7 +64,8 @@ impl<'a, R: Clock + Eprint> Page<'a, R> {
         let Ok(line) = line else {
             return;
         };
-        if let Ok(true) = self.refusals.hear(self.millis(), &line) {
+        let now = self.millis();
+        if let Ok(true) = self.refusals.hear(now, &line) {
             self.write(Ok(line));
         }
     }

@@ -156,7 +156,7 @@ no_age q true why read = refl
 no_age q false None read = refl
 no_age q false (Some w) read = refl
 
-no_failures : (q : ℕ) (acknowledged failed : Option ℕ) (failures : List ℕ) → failed ≡ None → failures ≡ []
+no_failures : (q : ℕ) (acknowledged : List ℕ) (failed : Option ℕ) (failures : List ℕ) → failed ≡ None → failures ≡ []
     → list_any (is_failure_of q) (map alarm.Failed (unseen acknowledged (beside failed failures ++ failures))) ≡ false
 no_failures q acknowledged failed failures e h =
     ap₂ (λ o qs. list_any (is_failure_of q) (map alarm.Failed (unseen acknowledged (beside o qs ++ qs)))) e h

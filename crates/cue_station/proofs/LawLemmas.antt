@@ -97,7 +97,7 @@ same_put_back s t e now wall [] = refl
 same_put_back s t e now wall (a ∷ live) =
     ap₂ (λ b xs. cond b (a ∷ xs) xs) (ap (λ o. is_over_by o now wall a) (e a.seq)) (same_put_back s t e now wall live)
 
-abbrev facts : ℕ → Option ℕ → Bool → Option ℕ → Option ℕ → Option ℕ → Option Trouble → Option ℕ → Option ℕ → Facts
+abbrev facts : ℕ → Option ℕ → Bool → Option ℕ → Option ℕ → Option ℕ → Option Trouble → Option ℕ → List ℕ → Facts
 facts now asked nobody differs stamped read trouble failed acknowledged =
     record {
       at = now;

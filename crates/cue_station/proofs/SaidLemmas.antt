@@ -39,7 +39,7 @@ kept_else : (q p : ℕ) (more : List ℕ) → list_any (nat_eq q) more ≡ true 
 kept_else q p more h true = ap (λ v. nat_eq q p || v) h ∙ or_true (nat_eq q p)
 kept_else q p more h false = h
 
-kept_one : (seen : Option ℕ) (q p : ℕ) (rest more : List ℕ) → is_acknowledged seen q ≡ false
+kept_one : (seen : List ℕ) (q p : ℕ) (rest more : List ℕ) → is_acknowledged seen q ≡ false
     → (nat_eq q p || list_any (nat_eq q) rest) ≡ true
     → (list_any (nat_eq q) rest ≡ true → list_any (nat_eq q) more ≡ true) → (b : Bool) → nat_eq q p ≡ b
     → list_any (nat_eq q) (cond (not (is_acknowledged seen p)) (p ∷ more) more) ≡ true
@@ -50,7 +50,7 @@ kept_one seen q p rest more h k ih true e =
 kept_one seen q p rest more h k ih false e =
     kept_else q p more (ih (sym (ap (λ v. v || list_any (nat_eq q) rest) e) ∙ k)) (not (is_acknowledged seen p))
 
-kept : (seen : Option ℕ) (q : ℕ) → is_acknowledged seen q ≡ false → (qs : List ℕ) → list_any (nat_eq q) qs ≡ true
+kept : (seen : List ℕ) (q : ℕ) → is_acknowledged seen q ≡ false → (qs : List ℕ) → list_any (nat_eq q) qs ≡ true
     → list_any (nat_eq q) (unseen seen qs) ≡ true
 kept seen q h [] k = k
 kept seen q h (p ∷ qs) k =

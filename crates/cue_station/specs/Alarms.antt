@@ -1,5 +1,5 @@
 -- What is wrong, the loudest first.
-use Rattle.std.specs.Prelude.{◌+◌, max, ℕ, pos, Bool, true, false, not, ◌&&◌, if◌then◌else◌, List, [], ◌∷◌, ◌++◌}
+use Rattle.std.specs.Prelude.{◌+◌, ◌%◌, max, replicate, slice_set, ℕ, pos, Bool, true, false, not, ◌&&◌, if◌then◌else◌, List, [], ◌∷◌, ◌++◌}
 use Rattle.std.specs.Prelude.{map, filter, length, Option, None, Some, nat_eq, nat_le, nat_lt}
 use Rattle.std.specs.List.{list_any}
 use Rattle.std.specs.Option.{option_eq, option_map, option_to_list}
@@ -16,7 +16,7 @@ use Rattle.cue_view.specs.declared.button.Button.TheVariants as button
 use Rattle.cue_station.specs.declared.heard.Heard.{Heard}
 use Rattle.cue_station.specs.declared.heard.Heard.TheVariants as heard
 use Rattle.cue_view.specs.declared.view.Trouble.{Trouble}
-use Rattle.cue_station.specs.declared.limits.TheConstants.{COPY_MS, OTHER_MS, STATUS_MS}
+use Rattle.cue_station.specs.declared.limits.TheConstants.{COPY_MS, KEPT_SEEN, OTHER_MS, STATUS_MS}
 use Rattle.cue_station.specs.declared.memory.Answered.{Answered}
 use Rattle.cue_station.specs.declared.memory.Question.{Question}
 use Rattle.cue_station.specs.declared.memory.Reading.{Reading}
@@ -129,21 +129,28 @@ abbrev pub failed_of : List Turn → Option ℕ
 failed_of [] = None
 failed_of (t ∷ past) = newest (failures_by (reading_of (t ∷ past))) (failed_of past)
 
+-- The attempts that were seen, each at a place of its own: of numbers that are 64 apart the one that was seen last. 0 is
+-- the number of none.
+abbrev pub nothing_seen : List ℕ
+nothing_seen = replicate KEPT_SEEN 0
+
+abbrev pub with_seen : ℕ → List ℕ → List ℕ
+with_seen q old = slice_set old (q % KEPT_SEEN) q
+
 -- a press that a young view offered says that q was seen
-abbrev pub acknowledged_by : Heard → ℕ → List Shown → Option ℕ → Option ℕ
+abbrev pub acknowledged_by : Heard → ℕ → List Shown → List ℕ → List ℕ
 acknowledged_by (heard.Pressed view (button.Seen q)) now views old =
-    if is_offered view now (button.Seen q) views then later q old else old
+    if is_offered view now (button.Seen q) views then with_seen q old else old
 acknowledged_by _ now views old = old
 
--- the newest failure of which a press said that it was seen
-abbrev pub acknowledged_of : List Turn → Option ℕ
-acknowledged_of [] = None
+-- the attempts of which presses said that they were seen
+abbrev pub acknowledged_of : List Turn → List ℕ
+acknowledged_of [] = nothing_seen
 acknowledged_of (t ∷ past) = acknowledged_by t.input.heard t.input.at (kept_of past) (acknowledged_of past)
 
--- q was seen, or a later one
-abbrev pub is_acknowledged : Option ℕ → ℕ → Bool
-is_acknowledged None q = false
-is_acknowledged (Some p) q = nat_le q p
+-- q was seen: q itself, and no other attempt in its place
+abbrev pub is_acknowledged : List ℕ → ℕ → Bool
+is_acknowledged seen q = list_any (nat_eq q) seen
 
 -- ---- each alarm
 
@@ -194,7 +201,7 @@ abbrev pub put_back_in : (ℕ → Option ℕ) → ℕ → ℕ → List Attempt �
 put_back_in since now wall live = map (λ a. a.seq) (filter (is_put_back since now wall) live)
 
 -- the failures that nobody has said he saw
-abbrev pub unseen : Option ℕ → List ℕ → List ℕ
+abbrev pub unseen : List ℕ → List ℕ → List ℕ
 unseen acknowledged qs = filter (λ q. not (is_acknowledged acknowledged q)) qs
 
 -- the newest failure, if the copy does not tell of it any more

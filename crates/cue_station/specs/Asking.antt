@@ -171,9 +171,14 @@ abbrev pub stands : List ℕ → Copied → Bool
 stands cue c =
     option_map_or (λ (a : Attempt). not (is_cancelling a.stage)) (attempt_of_cue c.state.live cue) false
 
--- the newest copy has the cue of a STANDBY standing by no more
+-- the newest copy has the cue standing by no more
+abbrev pub stands_no_more : List ℕ → Option Reading → Bool
+stands_no_more cue None = false
+stands_no_more cue (Some r) = not (stands cue r.copy)
+
+-- it is a STANDBY whose cue the newest copy has standing by no more
 abbrev pub has_ended : Button → Option Reading → Bool
-has_ended (button.Standby cue) (Some r) = not (stands cue r.copy)
+has_ended (button.Standby cue) r = stands_no_more cue r
 has_ended _ r = false
 
 -- a STANDBY that was made is over once a copy that was begun after that has its cue standing by no more

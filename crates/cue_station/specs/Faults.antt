@@ -73,11 +73,14 @@ abbrev pub is_number_of : ℕ → Option ℕ → Bool
 is_number_of q None = false
 is_number_of q (Some p) = nat_eq p q
 
+-- something went wrong in it by the events, and it is not the last one
+unfoldable pub is_earlier_fault : List Event → Option ℕ → ℕ → Bool
+is_earlier_fault es last q = is_fault_in q es && not (is_number_of q last)
+
 -- those of the past, but for the last one
 abbrev pub failed_before : Copied → List ℕ
 failed_before c =
-    filter (λ q. is_fault_in q c.events.items && not (is_number_of q (failed_last c.events.items c.state.ended)))
-    (take MAX_TOLD (ended_in c))
+    filter (is_earlier_fault c.events.items (failed_last c.events.items c.state.ended)) (take MAX_TOLD (ended_in c))
 
 -- the last one, though its start is not among the events any more, and those before
 abbrev pub failed_in : Copied → List ℕ

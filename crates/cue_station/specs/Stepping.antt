@@ -16,6 +16,7 @@ use Rattle.cue_station.specs.declared.station.Station.{Station}
 use Rattle.cue_station.specs.declared.station.Step.{Step}
 use Rattle.cue_view.specs.declared.view.Unsent.{Unsent}
 use Rattle.cue_view.specs.declared.view.View.{View}
+use Rattle.cue_station.specs.Alarms.{nothing_seen}
 use Rattle.cue_station.specs.Lighting.{may_by}
 use Rattle.cue_station.specs.Network.{relayed_with}
 use Rattle.cue_station.specs.Noting.{footing_by, notes_heard, notes_sent, order_by, send_by}
@@ -42,7 +43,7 @@ first_notes =
       press = None;
       beside = None;
       failed = None;
-      acknowledged = None;
+      acknowledged = nothing_seen;
       moved = None;
     }
 

@@ -9,7 +9,7 @@ ghost use Rattle.cue_view.specs.declared.view.Alarm.TheVariants as alarm;
 use crate::faults::one_or_none;
 use crate::heard::Copied;
 use crate::limits::{COPY_MS, OTHER_MS, STATUS_MS};
-use crate::memory::Seen;
+use crate::memory::{Acknowledged, Seen};
 use crate::network::is_stopped;
 use crate::showing::since_in;
 use cue_core::limits::STANDBY_MS;
@@ -36,8 +36,8 @@ pub struct Facts {
     pub trouble: Option<Trouble>,
     /// The newest failure that a copy told of.
     pub failed: Option<u32>,
-    /// The newest failure of which a press said that it was seen.
-    pub acknowledged: Option<u32>,
+    /// The attempts of which presses said that they were seen.
+    pub acknowledged: Acknowledged,
 }
 
 /// Whether a status is alive that was asked at this moment, or none ever was.
@@ -138,19 +138,16 @@ pub fn put_back_in(
         .collect(alloc)
 }
 
-// Whether a press said that the failure, or a later one, was seen.
-fn is_acknowledged(acknowledged: Option<u32>, seq: u32) -> bool
-    ensures { result ≡ alarms.is_acknowledged acknowledged seq }
+// Whether a press said that this failure was seen.
+fn is_acknowledged(acknowledged: &[u32], seq: u32) -> bool
+    ensures { result ≡ alarms.is_acknowledged acknowledged.now seq }
 {
-    match acknowledged {
-        Some(newest) => seq <= newest,
-        None => false,
-    }
+    is_among(seq, acknowledged)
 }
 
 // The failures that nobody has said he saw.
-fn unseen(alloc: Global, acknowledged: Option<u32>, numbers: &[u32]) -> Result<Vec<u32>, AllocError>
-    ensures { IfOk result (λ rest. rest.items ≡ alarms.unseen acknowledged numbers.now) }
+fn unseen(alloc: Global, acknowledged: &[u32], numbers: &[u32]) -> Result<Vec<u32>, AllocError>
+    ensures { IfOk result (λ rest. rest.items ≡ alarms.unseen acknowledged.now numbers.now) }
 {
     numbers
         .iter()
@@ -188,7 +185,7 @@ fn failed_by(alloc: Global, facts: Facts, failures: &[u32]) -> Result<Vec<u32>, 
 {
     let mut all = one_or_none(alloc, beside(facts.failed, failures))?;
     all.extend_from_slice(failures)?;
-    let numbers = unseen(alloc, facts.acknowledged, &all)?;
+    let numbers = unseen(alloc, &facts.acknowledged, &all)?;
     Ok(numbers)
 }
 

@@ -6,9 +6,9 @@ ghost use Rattle.std.specs.Option.{option_copied};
 ghost use Rattle.cue_station.specs.declared.memory.Choice.TheVariants as choice;
 
 use crate::heard::Heard;
-use crate::memory::{Choice, Reading, Shown};
+use crate::limits::KEPT_SEEN;
+use crate::memory::{Acknowledged, Choice, Reading, Shown};
 use crate::offering::is_offered;
-use crate::remembering::later;
 use cue_desk::orders::DeskCommand;
 use cue_desk::replying::Replied;
 use cue_exchange::Attempt;
@@ -130,13 +130,22 @@ pub(crate) fn chosen_number(choice: Choice) -> Option<u32>
     }
 }
 
-/// The newest failure of which a press said that it was seen, once something was heard.
+// The attempts that were seen, with this one.
+fn with_seen(seq: u32, acknowledged: Acknowledged) -> Acknowledged
+    ensures { result ≡ alarms.with_seen seq acknowledged }
+{
+    let mut after = acknowledged;
+    after[seq as usize % KEPT_SEEN] = seq;
+    after
+}
+
+/// The attempts of which presses said that they were seen, once something was heard.
 pub(crate) fn acknowledged_by(
-    acknowledged: Option<u32>,
+    acknowledged: Acknowledged,
     heard: &Heard,
     at: u64,
     views: &[Shown],
-) -> Option<u32>
+) -> Acknowledged
     ensures { result ≡ alarms.acknowledged_by heard.now at views.now acknowledged }
 {
     match heard {
@@ -146,7 +155,7 @@ pub(crate) fn acknowledged_by(
             at,
             Button::Seen(*seq),
         ) {
-            later(*seq, acknowledged)
+            with_seen(*seq, acknowledged)
         } else {
             acknowledged
         },

@@ -1,6 +1,6 @@
 //! What went wrong in attempts: a device failed, or the standby was lost. Both are said as soon as a copy shows them,
 //! also while the attempt is live, and by the same number once it has ended.
-ghost use Rattle.std.specs.Prelude.{◌≡◌, ◌&&◌, IfOk, filter, not};
+ghost use Rattle.std.specs.Prelude.{◌≡◌, IfOk, filter};
 ghost use Rattle.std.specs.Option.{option_to_list};
 ghost use Rattle.cue_station.specs.Faults as faults;
 
@@ -113,6 +113,14 @@ fn is_fault_in(seq: u32, events: &[Event]) -> bool
     is_fault(outcome_in(seq, events), reason_of(seq, events))
 }
 
+// Whether something went wrong in the attempt by the events, and it is not the last one.
+#[tactic(auto, unfolding(crate::specs::Faults::is_earlier_fault))]
+fn is_earlier_fault(seq: u32, events: &[Event], last: Option<u32>) -> bool
+    ensures { result ≡ faults.is_earlier_fault events.now last seq }
+{
+    is_fault_in(seq, events) && !is_number_of(seq, last)
+}
+
 // Those of the numbers in which something went wrong by the events, but for the last one.
 fn failed_of(
     alloc: Global,
@@ -121,12 +129,12 @@ fn failed_of(
     numbers: &[u32],
 ) -> Result<Vec<u32>, AllocError>
     ensures { IfOk result (λ rest. rest.items
-        ≡ filter (λ q. faults.is_fault_in q events.now && not (faults.is_number_of q last)) numbers.now) }
+        ≡ filter (faults.is_earlier_fault events.now last) numbers.now) }
 {
     numbers
         .iter()
         .copied()
-        .filter(|seq| is_fault_in(*seq, events) && !is_number_of(*seq, last))
+        .filter(|seq| is_earlier_fault(*seq, events, last))
         .collect(alloc)
 }
 

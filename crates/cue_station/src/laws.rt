@@ -2,8 +2,8 @@
 ghost use Rattle.std.specs.Prelude.{◌≡◌};
 ghost use Rattle.cue_station.specs.Examples.{LitUnheardIsRefused, OtherCueIsRefused, UnpressedIsRefused};
 ghost use Rattle.cue_station.specs.Readings.{AfterGoNothing, DeadlineIsDark, FailingIsSaid, NoCueAfterEnd};
-ghost use Rattle.cue_station.specs.declared.limits.TheConstants.{COPY_MS, KEPT_VIEWS, MAX_TOLD, OTHER_MS, PRESS_MS};
-ghost use Rattle.cue_station.specs.declared.limits.TheConstants.{RELAY_MS, STATUS_MS};
+ghost use Rattle.cue_station.specs.declared.limits.TheConstants.{COPY_MS, KEPT_SEEN, KEPT_VIEWS, MAX_TOLD, OTHER_MS};
+ghost use Rattle.cue_station.specs.declared.limits.TheConstants.{PRESS_MS, RELAY_MS, STATUS_MS};
 
 /// Without a place a cue is next only if none was given, and if the events tell of every attempt.
 pub fn no_cue_after_the_end()
@@ -42,8 +42,8 @@ pub fn other_cue_is_refused()
 {}
 
 /// What the desk stands by, in milliseconds: a copy for 1,000, a status for 2,000, a view for a press for 1,000. Another
-/// store is named after 1,000, a relay has stopped after 5,000. A press may name one of the newest 128 views, and 8
-/// attempts are told as ended.
+/// store is named after 1,000, a relay has stopped after 5,000. A press may name one of the newest 128 views, 8
+/// attempts are told as ended, and of 64 attempts in a row each keeps that it was seen.
 pub fn limits()
     ensures copy { COPY_MS ≡ 1000 }
     ensures status { STATUS_MS ≡ 2000 }
@@ -52,4 +52,5 @@ pub fn limits()
     ensures told { MAX_TOLD ≡ 8 }
     ensures other { OTHER_MS ≡ 1000 }
     ensures relay { RELAY_MS ≡ 5000 }
+    ensures seen { KEPT_SEEN ≡ 64 }
 {}

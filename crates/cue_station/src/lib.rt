@@ -26,7 +26,8 @@
 //! - A failure is said as soon as a copy shows it, while other devices of its cue still move, and so is a standby that
 //!   a device or the ten seconds gave up: who waits for the end hears of it too late. It stays until somebody says that
 //!   it was seen, also if later attempts end well: an operator who looked away has to find it. The attempt keeps its
-//!   number at its end, so that what was seen while it was live is no new alarm then. That press names a view, too. The newest failure stays also if a newer snapshot has swallowed its
+//!   number at its end, so that what was seen while it was live is no new alarm then. That one was seen says nothing of
+//!   another one. That press names a view, too. The newest failure stays also if a newer snapshot has swallowed its
 //!   events.
 //! - If the snapshot has swallowed its start, an attempt that ended is shown without a cue: to guess it from the place
 //!   would name a wrong one after a move.

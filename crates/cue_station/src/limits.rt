@@ -15,6 +15,9 @@ pub const MAX_TOLD: usize = 8;
 /// How many of the newest views a press may name.
 pub const KEPT_VIEWS: usize = 128;
 
+/// How many of the newest attempts keep that they were seen.
+pub const KEPT_SEEN: usize = 64;
+
 /// How long what is served has to disagree with the copy before it is called another store, in milliseconds: each
 /// change makes a short disagreement.
 pub const OTHER_MS: u64 = 1_000;

@@ -2,6 +2,7 @@
 ghost use Rattle.std.specs.Prelude.{◌≡◌};
 
 use crate::heard::Copied;
+use crate::limits::KEPT_SEEN;
 use cue_desk::replying::Status;
 use cue_relay::status as relay;
 use cue_show::CueNo;
@@ -32,6 +33,10 @@ pub enum Choice {
     Awaited(u64, CueNo),
     Attempt(u32),
 }
+
+/// The attempts of which presses said that they were seen, each at the place of its number among `KEPT_SEEN`. 0 is the
+/// number of none.
+pub type Acknowledged = [u32; KEPT_SEEN];
 
 /// Since when an attempt is seen to be live.
 #[derive(Clone, Copy)]
@@ -145,8 +150,8 @@ pub struct Notes {
     pub beside: Option<Pending>,
     /// The newest failure that a copy told of.
     pub failed: Option<u32>,
-    /// The newest failure of which a press said that it was seen.
-    pub acknowledged: Option<u32>,
+    /// The attempts of which presses said that they were seen.
+    pub acknowledged: Acknowledged,
     /// The last press, if that moved the place.
     pub moved: Option<Moved>,
 }

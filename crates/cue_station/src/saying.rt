@@ -45,13 +45,24 @@ fn stands(cue: CueNo, copy: &Copied) -> bool
     }
 }
 
-// Whether the newest copy has the cue of a STANDBY standing by no more.
+// Whether the newest copy has the cue standing by no more.
+fn stands_no_more(cue: CueNo, reading: &Option<Reading>) -> bool
+    ensures { result ≡ asking.stands_no_more cue reading.now }
+{
+    match reading {
+        Some(reading) => !stands(cue, &reading.copy),
+        None => false,
+    }
+}
+
+// Whether it is a STANDBY whose cue the newest copy has standing by no more.
 fn has_ended(button: Button, reading: &Option<Reading>) -> bool
     ensures { result ≡ asking.has_ended button reading.now }
 {
-    match (button, reading) {
-        (Button::Standby(cue), Some(reading)) => !stands(cue, &reading.copy),
-        _ => false,
+    match button {
+        Button::Standby(cue) => stands_no_more(cue, reading),
+        Button::Go(_, _) | Button::Cancel(_, _) | Button::Release(_, _) => false,
+        Button::MoveTo(_) | Button::Choose(_) | Button::Seen(_) => false,
     }
 }
 

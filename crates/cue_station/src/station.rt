@@ -9,7 +9,7 @@ ghost use Rattle.cue_station.specs.Stepping as stepping;
 use crate::faults::failures_of;
 use crate::heard::{Heard, Input, Send};
 use crate::hearing::{is_copy, put_back, seen_after, take_in};
-use crate::limits::KEPT_VIEWS;
+use crate::limits::{KEPT_SEEN, KEPT_VIEWS};
 use crate::memory::{Buttons, Choice, Notes, Pace, Reading, Relayed, Seen, Shown};
 use crate::noting::{footing_by, notes_heard, notes_sent};
 use crate::pacing::{is_due, pace_heard, pace_sent};
@@ -63,7 +63,7 @@ fn first_notes() -> Notes
         press: None,
         beside: None,
         failed: None,
-        acknowledged: None,
+        acknowledged: [0; KEPT_SEEN],
         moved: None,
     }
 }

@@ -1,5 +1,5 @@
 //! How attempts ended, by the events of the store.
-ghost use Rattle.std.specs.Prelude.{◌≡◌, ◌&&◌, IfOk, filter, find, is_some, map, not, take};
+ghost use Rattle.std.specs.Prelude.{◌≡◌, IfOk, filter, find, is_some, map, not, take};
 ghost use Rattle.std.specs.List.{list_any};
 ghost use Rattle.std.specs.Option.{option_copied};
 ghost use Rattle.cue_core.specs.Events.{is_cancel_of, is_start_of};

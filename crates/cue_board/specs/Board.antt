@@ -184,7 +184,7 @@ is_called live (alarm.Failed q) = is_some (live_of q live)
 is_called live _ = true
 
 -- the loudest alarm that has a line
-abbrev pub loudest : View → Option Alarm
+unfoldable pub loudest : View → Option Alarm
 loudest v = find (is_called v.live.items) v.alarms.items
 
 -- the words of the live attempt, else those of the alarm

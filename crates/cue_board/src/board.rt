@@ -29,6 +29,7 @@ fn is_called(live: &[LiveAttempt], alarm: Alarm) -> bool
 }
 
 // The loudest alarm that has a line.
+#[tactic(auto, unfolding(crate::specs::Board::loudest))]
 fn loudest(view: &View) -> Option<Alarm>
     ensures { result ≡ board.loudest view.now }
 {

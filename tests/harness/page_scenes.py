@@ -126,8 +126,15 @@ def keys(page, evening):
     page.key("s")
     check("S stands by", is_lit(page, "1"))
     page.key(" ")
+    page.key(" ")
+    check("a second tap is never said to be not sent",
+          not page.waits_for(lambda: "not sent" in page.text("words") or "not lit" in page.text("words"), 0.3))
+    page.key(" ")
+    check("it says that GO was given", page.shows("words", "GO was given for cue 1; the second tap did nothing", 0.3))
+    check("as a press that was made", page.find("words").get_attribute("class") == "made")
     check("the space bar is GO", ends(page, "1", "complete"))
     said = evening.view()["said"]
+    time.sleep(1)
     page.key(" ")
     time.sleep(0.7)
     check("GO where nothing is ready sends nothing", evening.view()["said"] == said)

@@ -4,9 +4,11 @@
 /// The text of the last `script`.
 pub(super) const PRESSING: &str = r#"
 "use strict";
-const POLL = 250, NOTED = 6000, LOCKED = 423, CLOSED = 429;
+const POLL = 250, NOTED = 6000, LOCKED = 423, CLOSED = 429, TAP = 1000;
 const token = document.querySelector("meta[name=cuedesk-token]").content;
 let namesText = "";
+const NO_GO = { press: "", at: -Infinity };
+let lastGo = NO_GO;
 
 // The names of a view; if they are those of before, nothing that shows them is made anew.
 function takeNames(told) {
@@ -36,11 +38,31 @@ function say(words, kind, millis) {
   showWords();
 }
 
+// What became of the GO that was sent from here less than a second ago, if it was not refused: a foot switch bounces.
+function lastTap() {
+  const said = view && view.said && view.said.press === lastGo.press ? view.said.kind : "open";
+  return now() - lastGo.at < TAP && (said === "open" || said === "made") ? said : null;
+}
+
+// A second tap of that GO is the same press, and says so: it gives no cue, and refuses none.
+function sayTap(kind) {
+  const cue = "cue " + lastGo.press.split(" ")[1];
+  const isMade = kind === "made";
+  say((isMade ? "GO was given for " : "GO is pressed for ") + cue + "; the second tap did nothing", kind,
+    isMade ? NOTED : TAP);
+}
+
+// A press that was not sent.
+function notGiven(press, why) {
+  if (press === lastGo.press) lastGo = NO_GO;
+  say(press + ": " + why, "refused", NOTED);
+}
+
 // What an answer says that carries nothing out.
 async function refused(press, reply) {
   if (reply.status === 403) { location.reload(); return; }
   const told = await reply.json();
-  say(press + ": " + told.words, "refused", NOTED);
+  notGiven(press, told.words);
   if (reply.status === LOCKED) askWord(press, told.words + ". " + press + " wants it:");
   if (reply.status === CLOSED) forget();
 }
@@ -51,21 +73,24 @@ async function send(press) {
   const text = wordFor(press);
   if (wantsWord(press) && text === undefined) { askWord(press); return; }
   say(press + " \u2026", "open", NOTED);
+  if (press.startsWith("go ")) lastGo = { press, at: now() };
   try {
     const headers = { "Cuedesk-Token": token, ...(text === undefined ? {} : { "Cuedesk-Word": text }) };
     const reply = await fetch("/command", { method: "POST", headers, body: view.number + " " + press });
     if (!reply.ok) { await refused(press, reply); return; }
     const told = await reply.json();
     take(told);
-    if (told.view.unsent) say(press + ": " + told.view.unsent, "refused", NOTED);
+    if (told.view.unsent) notGiven(press, told.view.unsent);
     else say("", "", 0);
   } catch (error) {
-    say(press + ": the desk does not answer; look at what is shown before you press again", "refused", NOTED);
+    notGiven(press, "the desk does not answer; look at what is shown before you press again");
   }
 }
 
 // A key or a great button: the lit one of the view that is drawn.
 function press(id) {
+  const tap = id === "go" ? lastTap() : null;
+  if (tap) { sayTap(tap); return; }
   const lit = litOf(id, () => true);
   if (lit) send(lit.press);
   else say(id.toUpperCase() + " is not lit: " + (id === "standby" && view ? view.next.why || whyDark() : whyDark()),

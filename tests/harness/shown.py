@@ -39,6 +39,7 @@ ELSEWHERE = (
     ("systemctl * cuectl*@first*", "tests/runs/package, in that Debian"),
     ("install -o cuectl *", "tests/runs/package, in that Debian"),
     ("sync /var/lib/*", "needs that folder"),
+    ("chmod 640 /var/lib/*", "needs that folder"),
     ("chown -R cuectl: show.new", "needs the account"),
     ("systemctl edit", "it asks a person"),
     ("journalctl -u cuectl@first", "tests/runs/package, in that Debian"),

@@ -181,9 +181,15 @@ abbrev pub has_ended : Button → Option Reading → Bool
 has_ended (button.Standby cue) r = stands_no_more cue r
 has_ended _ r = false
 
--- a STANDBY that was made is over once a copy that was begun after that has its cue standing by no more
+-- a copy was begun later than the answer came: one of the same millisecond may be of before
+abbrev pub is_read_later : Option Word → Option Reading → Bool
+is_read_later None r = false
+is_read_later (Some w) None = false
+is_read_later (Some w) (Some r) = nat_lt w.at r.at
+
+-- a STANDBY that was made is over once a copy that was begun later has its cue standing by no more
 abbrev pub is_over : Option Reading → Pending → Bool
-is_over r p = is_done (became_by p.answer p.settled) && (not (is_open r p) && has_ended p.button r)
+is_over r p = is_done (became_by p.answer p.settled) && (is_read_later p.answer r && has_ended p.button r)
 
 abbrev pub became_now : Option Reading → Pending → Became
 became_now r p = if is_over r p then became.Over else became_by p.answer p.settled

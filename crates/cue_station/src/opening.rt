@@ -18,8 +18,8 @@ fn is_read_after(answer: Option<Word>, reading: &Option<Reading>) -> bool
     }
 }
 
-/// Whether a press is open: it is neither answered and read after that, nor settled.
-pub(crate) fn is_open(pending: &Pending, reading: &Option<Reading>) -> bool
+// Whether a press is open: it is neither answered and read after that, nor settled.
+fn is_open(pending: &Pending, reading: &Option<Reading>) -> bool
     ensures { result ≡ asking.is_open reading.now pending.now }
 {
     !is_read_after(pending.answer, reading) && pending.settled.is_none()

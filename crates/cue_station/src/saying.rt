@@ -1,6 +1,6 @@
 //! What is said of the last press that was sent. That a STANDBY was made is said while its cue stands by: a green line
 //! of a standby that was lost would be believed.
-ghost use Rattle.std.specs.Prelude.{◌≡◌, not};
+ghost use Rattle.std.specs.Prelude.{◌≡◌};
 ghost use Rattle.std.specs.Option.{option_map, option_map_or};
 ghost use Rattle.cue_exchange.specs.Answers.{is_cancelling};
 ghost use Rattle.cue_exchange.specs.Live.{attempt_of_cue};
@@ -8,7 +8,6 @@ ghost use Rattle.cue_station.specs.Asking as asking;
 
 use crate::heard::Copied;
 use crate::memory::{Pending, Reading, Word};
-use crate::opening::is_open;
 use cue_show::CueNo;
 use cue_view::button::Button;
 use cue_view::view::{Became, Said};
@@ -66,12 +65,22 @@ fn has_ended(button: Button, reading: &Option<Reading>) -> bool
     }
 }
 
-// Whether it is a STANDBY that was made, and a copy that was begun after that has its cue standing by no more.
+// Whether a copy was begun later than the answer came: one of the same millisecond may be of before.
+fn is_read_later(answer: Option<Word>, reading: &Option<Reading>) -> bool
+    ensures { result ≡ asking.is_read_later answer reading.now }
+{
+    match (answer, reading) {
+        (Some(word), Some(reading)) => word.at < reading.at,
+        _ => false,
+    }
+}
+
+// Whether it is a STANDBY that was made, and a copy that was begun later has its cue standing by no more.
 fn is_over(pending: &Pending, reading: &Option<Reading>) -> bool
     ensures { result ≡ asking.is_over reading.now pending.now }
 {
     is_done(became_by(pending.answer, pending.settled))
-        && (!is_open(pending, reading) && has_ended(pending.button, reading))
+        && (is_read_later(pending.answer, reading) && has_ended(pending.button, reading))
 }
 
 // What became of a press, by what is known now.

@@ -3,233 +3,640 @@
  * Put this file and the header into your project. It is C99, and needs no C library at all, not even memcpy. It has no
  * float, no memory of its own and no recursion.
  *
- * It is written by hand from docs/DEVICES.md, whose cells (A1 to O) stand beside its lines. It is not proved:
- * tests/runs/device-c compares it with the proved library, call by call.
+ * It is written by hand from docs/DEVICES.md, whose cells (A1 to O) stand beside its lines. The contract above each
+ * function is ACSL. tests/runs/device-acsl proves them by Frama-C, with the definitions of device/acsl, whose table is
+ * made of docs/device-table.csv. tests/runs/device-c compares the file with the proved library, call by call.
  *
- * How large it is, by `clang -Os` of version 14 (`gcc -Os` of version 12 for x86-64):
+ * How large it is, by -Os; `tests/runs/device-c --sizes` measures it:
  *
- *     ARM Cortex-M3 and up    3.2 KiB of code, at most 320 bytes of stack
- *     ARM Cortex-M0           3.1 KiB of code, at most 400 bytes of stack
- *     RISC-V, 32 bits         3.5 KiB of code, at most 200 bytes of stack
- *     AVR                     6.0 KiB of code, at most 160 bytes of stack; some 250 bytes of it are constants in RAM
- *     x86-64                  3.5 KiB of code, at most 400 bytes of stack */
+ *     ARM Cortex-M3 and up    clang 14    3.0 KiB of code, at most 230 bytes of stack
+ *     ARM Cortex-M3 and up    gcc 12      2.2 KiB of code, at most 230 bytes of stack
+ *     ARM Cortex-M0           clang 14    3.0 KiB of code, at most 310 bytes of stack
+ *     ARM Cortex-M0           gcc 12      2.2 KiB of code, at most 280 bytes of stack
+ *     RISC-V, 32 bits         clang 14    3.6 KiB of code, at most 200 bytes of stack
+ *     RISC-V, 32 bits         gcc 12      2.8 KiB of code, at most 290 bytes of stack
+ *     AVR                     clang 14    5.7 KiB of code, at most 130 bytes of stack; its constants are in RAM, too
+ *     AVR                     gcc 5       4.4 KiB of code, at most 150 bytes of stack; its constants are in RAM, too
+ *     x86-64                  gcc 12      3.4 KiB of code, at most 270 bytes of stack */
 #include "cue_device.h"
 #include <stdbool.h>
 
-enum { MOST_NUMBER = 111, MOST_CUE = 16, MOST_BYTES = 32 };
-
+#define MOST_NUMBER 111u
+#define MOST_CUE 16u
+#define MOST_BYTES 32u
 #define MOST_ATTEMPT 0x7fffffffu /* the highest number of an attempt */
-
-/* ---- bytes */
-
-/* What is written is volatile in both, so that no compiler makes a call of memcpy or memset of a loop. */
-static void copy(uint8_t *to, const uint8_t *from, size_t length)
-{
-    volatile uint8_t *out = to;
-    size_t i;
-    for (i = 0; i < length; i++)
-        out[i] = from[i];
-}
-
-static void clear(uint8_t *to, size_t length)
-{
-    volatile uint8_t *out = to;
-    size_t i;
-    for (i = 0; i < length; i++)
-        out[i] = 0;
-}
-
-static bool is_same(const uint8_t *a, const uint8_t *b, size_t length)
-{
-    size_t i;
-    for (i = 0; i < length; i++)
-        if (a[i] != b[i])
-            return false;
-    return true;
-}
-
-static bool is_no_place(const struct cue_place *place)
-{
-    static const uint8_t ZEROS[sizeof place->bytes];
-    return is_same(place->bytes, ZEROS, sizeof place->bytes);
-}
-
-/* Some bytes of a datagram. */
-struct span {
-    const uint8_t *bytes;
-    size_t length;
-};
-
-static bool is_text(struct span span, const char *text)
-{
-    size_t i;
-    for (i = 0; i < span.length; i++)
-        if (text[i] == '\0' || span.bytes[i] != (uint8_t)text[i])
-            return false;
-    return text[span.length] == '\0';
-}
-
-/* The number of a cue: 1 to 16 bytes, digits and single points between them. */
-static bool is_cue(struct span text)
-{
-    bool after_digit = false;
-    size_t i;
-    for (i = 0; i < text.length; i++) {
-        const bool is_digit = text.bytes[i] >= '0' && text.bytes[i] <= '9';
-        if (!is_digit && !(text.bytes[i] == '.' && after_digit))
-            return false;
-        after_digit = is_digit;
-    }
-    return after_digit && text.length <= MOST_CUE;
-}
-
-/* ---- reading OSC */
-
-/* What is left of a datagram. A part that is cut off or is not padded with zeros makes it bad, for good. */
-struct reader {
-    struct span left;
-    bool is_bad;
-};
-
-/* So many bytes, and so many zeros after them. */
-static struct span take(struct reader *reader, size_t length, size_t zeros)
-{
-    struct span taken = reader->left;
-    size_t i;
-    if (reader->is_bad || length > taken.length || zeros > taken.length - length) {
-        reader->is_bad = true;
-        taken.length = 0;
-        return taken;
-    }
-    for (i = 0; i < zeros; i++)
-        if (taken.bytes[length + i] != 0)
-            reader->is_bad = true;
-    reader->left.bytes += length + zeros;
-    reader->left.length -= length + zeros;
-    taken.length = length;
-    return taken;
-}
-
-/* An int32: big-endian. The highest bit stays in its place, so that a number below 0 is above each that there is. */
-static uint32_t take_int(struct reader *reader)
-{
-    const struct span taken = take(reader, 4, 0);
-    uint32_t value = 0;
-    size_t i;
-    for (i = 0; i < taken.length; i++)
-        value = value << 8 | taken.bytes[i];
-    return value;
-}
-
-/* An OSC-string: one zero after it, and up to three more. */
-static struct span take_text(struct reader *reader)
-{
-    size_t length = 0;
-    while (length < reader->left.length && reader->left.bytes[length] != 0)
-        length++;
-    return take(reader, length, 4 - (length & 3));
-}
-
-/* An OSC-blob of at most 32 bytes: its count before it, and up to three zeros after it. */
-static struct span take_blob(struct reader *reader)
-{
-    const uint32_t count = take_int(reader);
-    if (count > MOST_BYTES)
-        reader->is_bad = true;
-    return take(reader, (size_t)(count & 63), (size_t)((4 - (count & 3)) & 3));
-}
-
-/* ---- writing OSC: the answer has zeros after its length already */
-
-static void put(struct cue_answer *answer, const char *text)
-{
-    size_t i;
-    for (i = 0; text[i] != '\0'; i++)
-        answer->bytes[answer->length++] = (uint8_t)text[i];
-}
-
-/* One zero, and up to three more. */
-static void end_text(struct cue_answer *answer)
-{
-    answer->length += 4 - (answer->length & 3);
-}
-
-static void put_int(struct cue_answer *answer, uint32_t value)
-{
-    int shift;
-    for (shift = 24; shift >= 0; shift -= 8)
-        answer->bytes[answer->length++] = (uint8_t)(value >> shift);
-}
-
-/* A number up to 111 in decimal, without zeros in front. */
-static void put_decimal(struct cue_answer *answer, uint32_t number)
-{
-    const unsigned below_100 = (unsigned)(number >= 100 ? number - 100 : number);
-    const unsigned tens = below_100 * 103 >> 10; /* below_100 / 10, where no division is built in */
-    if (number >= 100)
-        answer->bytes[answer->length++] = '1';
-    if (number >= 10)
-        answer->bytes[answer->length++] = (uint8_t)('0' + tens);
-    answer->bytes[answer->length++] = (uint8_t)('0' + below_100 - 10 * tens);
-}
 
 /* The words of a device, and none. */
 enum word { SILENT, STANDING_BY, COMPLETE, CANCELLED, ABORT };
 
-static const char *text_of(uint32_t word)
+/* The columns 1 to 4 of the tables of docs/DEVICES.md, "What a device makes of each order". */
+enum column { SAME_STANDBY, OTHER_STANDBY, GO, CANCEL, NO_COLUMN };
+
+#ifdef __FRAMAC__
+#include "acsl/table.h"
+#include "acsl/device.h"
+#include "acsl/calls.h"
+#endif
+
+/* ---- bytes */
+
+/* What is written is volatile in both, so that no compiler makes a call of memcpy or memset of a loop. */
+
+/*@ requires \valid(to + (0 .. length - 1)) && \valid_read(from + (0 .. length - 1));
+    requires \separated(to + (0 .. length - 1), from + (0 .. length - 1));
+    terminates \true;
+    assigns to[0 .. length - 1];
+    ensures \forall integer k; 0 <= k < length ==> to[k] == \old(from[k]); */
+static void copy(uint8_t *to, const uint8_t *from, size_t length)
 {
-    switch (word) {
-    case STANDING_BY:
-        return "/standing_by";
-    case COMPLETE:
-        return "/complete";
-    case CANCELLED:
-        return "/cancelled";
-    default:
-        return "/abort";
+    volatile uint8_t *out = to;
+    size_t i;
+    /*@ loop invariant 0 <= i <= length;
+        loop invariant \forall integer k; 0 <= k < i ==> to[k] == from[k];
+        loop assigns i, to[0 .. length - 1];
+        loop variant length - i; */
+    for (i = 0; i < length; i++) {
+        out[i] = from[i];
     }
+}
+
+/*@ requires \valid(to + (0 .. length - 1));
+    terminates \true;
+    assigns to[0 .. length - 1];
+    ensures zeros(to, 0, length); */
+static void clear(uint8_t *to, size_t length)
+{
+    volatile uint8_t *out = to;
+    size_t i;
+    /*@ loop invariant 0 <= i <= length;
+        loop invariant zeros(to, 0, i);
+        loop assigns i, to[0 .. length - 1];
+        loop variant length - i; */
+    for (i = 0; i < length; i++) {
+        out[i] = 0;
+    }
+}
+
+/* Copies, with zeros after it. */
+/*@ requires \valid(to + (0 .. most - 1)) && \valid_read(from + (0 .. length - 1)) && length <= most;
+    requires \separated(to + (0 .. most - 1), from + (0 .. length - 1));
+    terminates \true;
+    assigns to[0 .. most - 1];
+    ensures is_kept(to, most, from, length); */
+static void keep(uint8_t *to, size_t most, const uint8_t *from, size_t length)
+{
+    volatile uint8_t *out = to;
+    size_t i;
+    /*@ loop invariant 0 <= i <= most;
+        loop invariant \forall integer k; 0 <= k < i ==> to[k] == (k < length ? from[k] : 0);
+        loop assigns i, to[0 .. most - 1];
+        loop variant most - i; */
+    for (i = 0; i < most; i++) {
+        out[i] = i < length ? from[i] : 0u;
+    }
+}
+
+/*@ requires \valid_read(a + (0 .. length - 1)) && \valid_read(b + (0 .. length - 1));
+    terminates \true;
+    assigns \nothing;
+    ensures \result <==> \forall integer k; 0 <= k < length ==> a[k] == b[k]; */
+static bool is_same(const uint8_t *a, const uint8_t *b, size_t length)
+{
+    size_t i;
+    /*@ loop invariant 0 <= i <= length;
+        loop invariant \forall integer k; 0 <= k < i ==> a[k] == b[k];
+        loop assigns i;
+        loop variant length - i; */
+    for (i = 0; i < length; i++) {
+        if (a[i] != b[i]) {
+            return false;
+        }
+    }
+    return true;
+}
+
+/*@ requires \valid_read(bytes + (from .. to - 1));
+    terminates \true;
+    assigns \nothing;
+    ensures \result <==> zeros(bytes, from, to); */
+static bool are_zeros(const uint8_t *bytes, size_t from, size_t to)
+{
+    size_t i;
+    /*@ loop invariant from <= i && (i <= to || i == from);
+        loop invariant zeros(bytes, from, i);
+        loop assigns i;
+        loop variant to - i; */
+    for (i = from; i < to; i++) {
+        if (bytes[i] != 0u) {
+            return false;
+        }
+    }
+    return true;
+}
+
+/* Whether these are the bytes of no place. */
+/*@ requires \valid_read(place + (0 .. 7));
+    terminates \true;
+    assigns \nothing;
+    ensures \result <==> zeros(place, 0, 8); */
+static bool is_nowhere(const uint8_t *place)
+{
+    return are_zeros(place, 0, 8);
+}
+
+/* How many of these bytes are the number of a cue, as far as they go: digits, and single points after a digit. */
+/*@ requires \valid_read(bytes + (0 .. most - 1));
+    terminates \true;
+    assigns \nothing;
+    ensures 0 <= \result <= most;
+    ensures \forall integer k; 0 <= k < \result ==> is_of_cue(bytes, k);
+    ensures \result < most ==> !is_of_cue(bytes, \result); */
+static size_t cue_bytes(const uint8_t *bytes, size_t most)
+{
+    bool after_digit = false;
+    size_t i;
+    /*@ loop invariant 0 <= i <= most;
+        loop invariant after_digit <==> i > 0 && is_digit(bytes[i - 1]);
+        loop invariant \forall integer k; 0 <= k < i ==> is_of_cue(bytes, k);
+        loop assigns i, after_digit;
+        loop variant most - i; */
+    for (i = 0; i < most; i++) {
+        const bool is_digit = bytes[i] >= 48u && bytes[i] <= 57u;
+        if (!is_digit && !(bytes[i] == 46u && after_digit)) {
+            return i;
+        }
+        after_digit = is_digit;
+    }
+    return i;
+}
+
+/* The number of a cue: 1 to 16 bytes, digits and single points between them. */
+/*@ requires \valid_read(bytes + (0 .. length - 1));
+    terminates \true;
+    assigns \nothing;
+    ensures \result <==> is_cue(bytes, length); */
+static bool is_cue_number(const uint8_t *bytes, size_t length)
+{
+    return length > 0u && length <= MOST_CUE && cue_bytes(bytes, length) == length && bytes[length - 1u] != 46u;
+}
+
+/* ---- reading OSC */
+
+/* An int32, big-endian. One below 0 is read as one above each number that there is. */
+/*@ requires \valid_read(bytes + (0 .. 3));
+    terminates \true;
+    assigns \nothing;
+    ensures \result == int_at(bytes); */
+static uint32_t int_of(const uint8_t *bytes)
+{
+    return ((bytes[0] * (uint32_t)256 + bytes[1]) * 256u + bytes[2]) * 256u + bytes[3];
+}
+
+/* The length of a text with its zeros: one, and up to three more. */
+/*@ requires length <= 1000;
+    terminates \true;
+    assigns \nothing;
+    ensures \result == text_end(length); */
+static size_t end_of_text(size_t length)
+{
+    return length + 4u - length % 4u;
+}
+
+/* The length of a blob with its zeros, up to three. */
+/*@ requires length <= 1000;
+    terminates \true;
+    assigns \nothing;
+    ensures \result == blob_end(length); */
+static size_t end_of_blob(size_t length)
+{
+    return length + (4u - length % 4u) % 4u;
+}
+
+/* The heads of messages: an address and its tags, each with its zeros. */
+static const uint8_t STANDBY_HEAD[24] = {'/', 'm', 's', 'c', '/', 's', 't', 'a', 'n', 'd', 'b', 'y',
+                                         0,   0,   0,   0,   ',', 'i', 'i', 's', 'b', 0,   0,   0};
+static const uint8_t GO_HEAD[16] = {'/', 'm', 's', 'c', '/', 'g', 'o', '_', '2', 'p', 'c', 0, ',', 'i', 'i', 0};
+static const uint8_t CANCEL_HEAD[16] = {'/', 'm', 's', 'c', '/', 'c', 'a', 'n', 'c', 'e', 'l', 0, ',', 'i', 'i', 0};
+static const uint8_t REPLY_HEAD[16] = {'/', 'r', 'e', 'p', 'l', 'y', 0, 0, ',', 's', 'i', 'i', 'i', 'i', 0, 0};
+
+/*@ requires \valid_read(datagram + (0 .. 23));
+    terminates \true;
+    assigns \nothing;
+    ensures \result ==> begins_standby(datagram);
+    ensures begins_standby(datagram) ==> \result; */
+static bool is_of_standby(const uint8_t *datagram)
+{
+    return is_same(datagram, STANDBY_HEAD, sizeof STANDBY_HEAD);
+}
+
+/*@ requires \valid_read(datagram + (0 .. 15));
+    terminates \true;
+    assigns \nothing;
+    ensures \result ==> begins_go(datagram);
+    ensures begins_go(datagram) ==> \result; */
+static bool is_of_go(const uint8_t *datagram)
+{
+    return is_same(datagram, GO_HEAD, sizeof GO_HEAD);
+}
+
+/*@ requires \valid_read(datagram + (0 .. 15));
+    terminates \true;
+    assigns \nothing;
+    ensures \result ==> begins_cancel(datagram);
+    ensures begins_cancel(datagram) ==> \result; */
+static bool is_of_cancel(const uint8_t *datagram)
+{
+    return is_same(datagram, CANCEL_HEAD, sizeof CANCEL_HEAD);
+}
+
+/*@ requires \valid_read(datagram + (0 .. 15));
+    terminates \true;
+    assigns \nothing;
+    ensures \result ==> begins_reply(datagram);
+    ensures begins_reply(datagram) ==> \result; */
+static bool is_of_reply(const uint8_t *datagram)
+{
+    return is_same(datagram, REPLY_HEAD, sizeof REPLY_HEAD);
+}
+
+/* The attempt of two numbers, if they are those of an order for the device of this number; otherwise 0. */
+/*@ requires \valid_read(numbers + (0 .. 7));
+    terminates \true;
+    assigns \nothing;
+    ensures \result > 0 ==> has_numbers(numbers, number, \result);
+    ensures \result == 0 ==> \forall integer q; !has_numbers(numbers, number, q); */
+static uint32_t attempt_of(const uint8_t *numbers, uint32_t number)
+{
+    const uint32_t attempt = int_of(numbers);
+    return attempt <= MOST_ATTEMPT && int_of(numbers + 4) == number ? attempt : 0u;
+}
+
+/* The length of the number of a cue that these bytes begin with, and its zeros; 0 if they do not. */
+/*@ requires \valid_read(bytes + (0 .. length - 1)) && 8 <= length <= 65535;
+    terminates \true;
+    assigns \nothing;
+    ensures \result > 0 ==> is_cue_text(bytes, length, \result);
+    ensures \result > 0 ==> \forall integer c; is_cue_text(bytes, length, c) ==> c == \result;
+    ensures \result == 0 ==> \forall integer c; !is_cue_text(bytes, length, c); */
+static size_t cue_of(const uint8_t *bytes, size_t length)
+{
+    const size_t cue = cue_bytes(bytes, length < MOST_CUE ? length : MOST_CUE);
+    /*@ assert \forall integer c; is_cue_text(bytes, length, c) ==> !(c < cue) && !(c > cue); */
+    if (cue == 0u || bytes[cue - 1u] == 46u || end_of_text(cue) > length) {
+        return 0;
+    }
+    /*@ assert is_cue(bytes, cue); */
+    return are_zeros(bytes, cue, end_of_text(cue)) ? cue : 0u;
+}
+
+/* Whether the datagram ends with a blob of at most 32 bytes, and its zeros, from here on. */
+/*@ requires \valid_read(datagram + (0 .. length - 1)) && at <= length <= 65535;
+    terminates \true;
+    assigns \nothing;
+    ensures \result ==> is_blob(datagram, at, length, int_at(datagram + at));
+    ensures !\result ==> \forall integer b; !is_blob(datagram, at, length, b); */
+static bool is_short_blob(const uint8_t *datagram, size_t at, size_t length)
+{
+    size_t count;
+    if (length - at < 4u || int_of(datagram + at) > MOST_BYTES) {
+        return false;
+    }
+    count = (size_t)int_of(datagram + at);
+    /*@ assert count == int_at(datagram + at); */
+    return end_of_blob(count) == length - at - 4u && are_zeros(datagram, at + 4u + count, length);
+}
+
+/* ---- an order of the controller */
+
+struct order {
+    enum column column;
+    uint32_t attempt;
+    size_t cue_at, cue_length, bytes_at, bytes_length; /* of a standby: where in the datagram they are */
+};
+
+static const struct order NO_ORDER = {NO_COLUMN, 0, 0, 0, 0, 0};
+
+/* Reads a standby for the device of this number. */
+/*@ requires \valid_read(datagram + (0 .. length - 1)) && length <= 65535;
+    terminates \true;
+    assigns \nothing;
+    ensures \result.column == OTHER_STANDBY || \result.column == NO_COLUMN;
+    ensures \result.column == OTHER_STANDBY ==>
+      is_standby(datagram, length, number, \result.attempt, \result.cue_length, \result.bytes_length);
+    ensures \result.column == OTHER_STANDBY ==>
+      \result.cue_at == 32 && \result.bytes_at == blob_at(\result.cue_length) + 4
+      && 32 + \result.cue_length <= length && \result.bytes_at + \result.bytes_length <= length
+      && \result.cue_length <= MOST_CUE && \result.bytes_length <= MOST_BYTES;
+    ensures \result.column == OTHER_STANDBY ==>
+      \forall integer q, c, b; is_standby(datagram, length, number, q, c, b) ==>
+        q == \result.attempt && c == \result.cue_length && b == \result.bytes_length;
+    ensures \result.column == OTHER_STANDBY ==> begins_standby(datagram);
+    ensures \result.column == NO_COLUMN ==>
+      \forall integer q, c, b; !is_standby(datagram, length, number, q, c, b); */
+static struct order standby_of(const uint8_t *datagram, size_t length, uint32_t number)
+{
+    struct order order = NO_ORDER;
+    size_t at, rest;
+    if (length < 40u || !is_of_standby(datagram)) {
+        return order;
+    }
+    rest = length - 32u;
+    /*@ assert rest == length - 32; */
+    order.attempt = attempt_of(datagram + 24, number);
+    order.cue_length = cue_of(datagram + 32, rest);
+    if (order.attempt == 0u || order.cue_length == 0u) {
+        /*@ assert order.attempt == 0 ==> \forall integer q; !has_numbers(datagram + 24, number, q); */
+        /*@ assert order.cue_length == 0 ==> \forall integer c; !is_cue_text(datagram + 32, length - 32, c); */
+        return order;
+    }
+    /*@ assert \forall integer c; is_cue_text(datagram + 32, length - 32, c) ==> c == order.cue_length; */
+    at = 32u + end_of_text(order.cue_length);
+    /*@ assert at == blob_at(order.cue_length) && at <= length; */
+    if (is_short_blob(datagram, at, length)) {
+        order.column = OTHER_STANDBY;
+        order.cue_at = 32u;
+        order.bytes_at = at + 4u;
+        order.bytes_length = (size_t)int_of(datagram + at);
+        /*@ assert is_blob(datagram, blob_at(order.cue_length), length, order.bytes_length); */
+        /*@ assert \forall integer b; is_blob(datagram, blob_at(order.cue_length), length, b) ==>
+              b == order.bytes_length; */
+        /*@ assert \forall integer q; has_numbers(datagram + 24, number, q) ==> q == order.attempt; */
+        return order;
+    }
+    /*@ assert \forall integer b; !is_blob(datagram, blob_at(order.cue_length), length, b); */
+    return order;
+}
+
+/* Whether the device has heard this very standby: the same cue and the same bytes. */
+/*@ requires \valid_read(datagram + (0 .. order.bytes_at + order.bytes_length - 1)) && \valid_read(device);
+    requires order.cue_at == 32 && order.bytes_at == blob_at(order.cue_length) + 4;
+    requires order.cue_length <= MOST_CUE && order.bytes_length <= MOST_BYTES;
+    terminates \true;
+    assigns \nothing;
+    ensures \result ==> is_copy(device, datagram, order.attempt, order.cue_length, order.bytes_length);
+    ensures is_copy(device, datagram, order.attempt, order.cue_length, order.bytes_length) ==> \result; */
+static bool is_copy_of(const struct cue_device *device, const uint8_t *datagram, struct order order)
+{
+    return order.attempt == device->last && order.cue_length == device->cue_length &&
+           order.bytes_length == device->bytes_length &&
+           is_same(datagram + order.cue_at, device->cue, order.cue_length) &&
+           is_same(datagram + order.bytes_at, device->bytes, order.bytes_length);
+}
+
+/* Reads an order for this device: exactly the bytes of the protocol, and no byte more. */
+/*@ requires \valid_read(datagram + (0 .. length - 1)) && \valid_read(device) && length <= 65535;
+    terminates \true;
+    assigns \nothing;
+    ensures SAME_STANDBY <= \result.column <= NO_COLUMN;
+    ensures \result.column != NO_COLUMN ==> is_order(device, datagram, length, \result.column, \result.attempt,
+                                                     \result.cue_length, \result.bytes_length);
+    ensures \result.column <= OTHER_STANDBY ==>
+      \result.cue_at == 32 && \result.bytes_at == blob_at(\result.cue_length) + 4;
+    ensures GO <= \result.column <= CANCEL ==> \result.cue_length == 0 && \result.bytes_length == 0;
+    ensures \result.column == SAME_STANDBY ==> \result.attempt == device->last;
+    ensures \result.column != NO_COLUMN ==> \result.cue_at + \result.cue_length <= length
+      && \result.bytes_at + \result.bytes_length <= length;
+    ensures \result.cue_length <= MOST_CUE && \result.bytes_length <= MOST_BYTES;
+    ensures \result.column != NO_COLUMN ==>
+      \forall integer k, q, c, b; is_order(device, datagram, length, k, q, c, b) ==> k == \result.column
+        && q == \result.attempt && c == \result.cue_length && b == \result.bytes_length;
+    ensures \result.column == NO_COLUMN ==>
+      \forall integer k, q, c, b; !is_order(device, datagram, length, k, q, c, b); */
+static struct order order_of(const struct cue_device *device, const uint8_t *datagram, size_t length)
+{
+    struct order order = standby_of(datagram, length, device->number);
+    if (order.column == OTHER_STANDBY) {
+        order.column = is_copy_of(device, datagram, order) ? SAME_STANDBY : OTHER_STANDBY;
+        return order;
+    }
+    order = NO_ORDER;
+    if (length != 24u) {
+        return order;
+    }
+    order.attempt = attempt_of(datagram + 16, device->number);
+    if (order.attempt > 0u && is_of_go(datagram)) {
+        order.column = GO;
+    } else if (order.attempt > 0u && is_of_cancel(datagram)) {
+        order.column = CANCEL;
+    } else {
+        order.column = NO_COLUMN;
+    }
+    return order;
+}
+
+/* ---- writing OSC, each byte by its place */
+
+static const uint8_t DEVICE[8] = {'/', 'd', 'e', 'v', 'i', 'c', 'e', '/'};
+static const uint8_t WORDS[ABORT + 1][12] = {
+    [STANDING_BY] = {'/', 's', 't', 'a', 'n', 'd', 'i', 'n', 'g', '_', 'b', 'y'},
+    [COMPLETE] = {'/', 'c', 'o', 'm', 'p', 'l', 'e', 't', 'e'},
+    [CANCELLED] = {'/', 'c', 'a', 'n', 'c', 'e', 'l', 'l', 'e', 'd'},
+    [ABORT] = {'/', 'a', 'b', 'o', 'r', 't'},
+};
+static const uint8_t LENGTHS[ABORT + 1] = {[STANDING_BY] = 12, [COMPLETE] = 9, [CANCELLED] = 10, [ABORT] = 6};
+
+/* How many digits the number of a device has. */
+/*@ terminates \true;
+    assigns \nothing;
+    ensures \result == digits(number); */
+static size_t digits_of(uint32_t number)
+{
+    return number >= 100u ? 3u : number >= 10u ? 2u : 1u;
+}
+
+/* A digit of the number of a device, from the first one on; tens are its tenth part, where no division is built in. */
+/*@ requires number <= MOST_NUMBER && i < digits(number);
+    terminates \true;
+    assigns \nothing;
+    ensures \result == digit(number, i); */
+static uint8_t digit_of(uint32_t number, size_t i)
+{
+    const unsigned tens = (unsigned)number * 103u / 1024u;
+    /*@ assert tens == number / 10; */
+    if (i + 1u == digits_of(number)) {
+        return (uint8_t)(48u + number - 10u * tens);
+    }
+    if (i + 2u == digits_of(number)) {
+        return (uint8_t)(48u + (tens >= 10u ? tens - 10u : tens));
+    }
+    return 49u;
+}
+
+/* The length of an answer's address with its zeros. */
+/*@ requires STANDING_BY <= word <= ABORT;
+    terminates \true;
+    assigns \nothing;
+    ensures \result == address_end(number, word); */
+static size_t address_end_of(uint32_t number, uint32_t word)
+{
+    return end_of_text(8u + digits_of(number) + LENGTHS[word]);
+}
+
+/* A byte of such an address, as /device/3/abort, and zeros after it. */
+/*@ requires number <= MOST_NUMBER && STANDING_BY <= word <= ABORT && i <= 1000;
+    terminates \true;
+    assigns \nothing;
+    ensures \result == address_byte(number, word, i); */
+static uint8_t address_byte_of(uint32_t number, uint32_t word, size_t i)
+{
+    const size_t after_number = 8u + digits_of(number);
+    if (i < 8u) {
+        return DEVICE[i];
+    }
+    if (i < after_number) {
+        return digit_of(number, i - 8u);
+    }
+    return i < after_number + 12u ? WORDS[word][i - after_number] : 0u;
+}
+
+/* A byte of the tags of one number, and of the number: an int32, big-endian. */
+/*@ requires i < 8;
+    terminates \true;
+    assigns \nothing;
+    ensures \result == number_byte(value, i); */
+static uint8_t number_byte_of(uint32_t value, size_t i)
+{
+    if (i == 0u) {
+        return 44u;
+    }
+    if (i == 1u) {
+        return 105u;
+    }
+    if (i < 4u) {
+        return 0u;
+    }
+    if (i < 6u) {
+        return (uint8_t)(i == 4u ? value / 16777216u : value / 65536u % 256u);
+    }
+    return (uint8_t)(i == 6u ? value / 256u % 256u : value % 256u);
+}
+
+/* A byte of an answer for an attempt, and zeros after it. */
+/*@ requires number <= MOST_NUMBER && STANDING_BY <= word <= ABORT && i <= 1000;
+    terminates \true;
+    assigns \nothing;
+    ensures \result == answer_byte(number, word, attempt, i); */
+static uint8_t answer_byte_of(uint32_t number, uint32_t word, uint32_t attempt, size_t i)
+{
+    const size_t end = address_end_of(number, word);
+    if (i < end) {
+        return address_byte_of(number, word, i);
+    }
+    return i < end + 8u ? number_byte_of(attempt, i - end) : 0u;
+}
+
+/* Whether it is the controller's reply to an abort of the device of this number; its four numbers may be any. */
+/*@ requires \valid_read(datagram + (0 .. length - 1)) && length <= 65535 && number <= MOST_NUMBER;
+    terminates \true;
+    assigns \nothing;
+    ensures \result ==> is_reply_to_abort(datagram, length, number);
+    ensures is_reply_to_abort(datagram, length, number) ==> \result; */
+static bool is_reply(const uint8_t *datagram, size_t length, uint32_t number)
+{
+    const size_t end = address_end_of(number, ABORT);
+    size_t i;
+    if (length != end + 32u || !is_of_reply(datagram)) {
+        return false;
+    }
+    /*@ loop invariant 0 <= i <= end;
+        loop invariant \forall integer k; 0 <= k < i ==> datagram[16 + k] == address_byte(number, ABORT, k);
+        loop assigns i;
+        loop variant end - i; */
+    for (i = 0; i < end; i++) {
+        if (datagram[16u + i] != address_byte_of(number, ABORT, i)) {
+            return false;
+        }
+    }
+    return true;
 }
 
 /* ---- what a call gives */
 
 /* There is nothing to send. */
+/*@ requires \valid(answer);
+    terminates \true;
+    assigns *answer;
+    ensures is_silent(answer); */
 static void say_nothing(struct cue_answer *answer)
 {
-    clear((uint8_t *)answer, sizeof *answer);
+    answer->length = 0;
+    clear(answer->to.bytes, sizeof answer->to.bytes);
+    clear(answer->bytes, sizeof answer->bytes);
+    /*@ assert zeros(&answer->to.bytes[0], 0, 8); */
 }
 
-static uint32_t bad_call(struct cue_answer *answer)
+/* A bad call changes nothing, and has nothing to send. */
+/*@ requires \valid(answer) && \valid_read(device) && \separated(answer, device);
+    terminates \true;
+    assigns *answer;
+    ensures is_silent(answer) && same{Pre, Post}(device);
+    ensures \result == CUE_BAD_CALL; */
+static uint32_t refuse(const struct cue_device *device, struct cue_answer *answer)
 {
+    (void)device;
     say_nothing(answer);
     return CUE_BAD_CALL;
 }
 
-/* The address of an answer, as /device/3/abort. */
-static void put_address(struct cue_answer *answer, const struct cue_device *device, uint32_t word)
-{
-    put(answer, "/device/");
-    put_decimal(answer, device->number);
-    put(answer, text_of(word));
-    end_text(answer);
-}
-
 /* The answer of the device for an attempt, to where its last order came from; nothing to send for SILENT. */
+/*@ requires \valid(answer) && \valid_read(device) && \separated(answer, device);
+    requires device->number <= MOST_NUMBER && word <= ABORT;
+    terminates \true;
+    assigns *answer;
+    ensures says(answer, device, word, attempt);
+    ensures same{Pre, Post}(device); */
 static void say(struct cue_answer *answer, const struct cue_device *device, uint32_t word, uint32_t attempt)
 {
+    const uint32_t number = device->number;
+    size_t i;
     say_nothing(answer);
+    /*@ assert same{Pre, Here}(device); */
     copy(answer->to.bytes, device->controller.bytes, sizeof answer->to.bytes);
-    if (word == SILENT)
+    /*@ assert same{Pre, Here}(device); */
+    /*@ assert goes_to(answer, device) && zeros(&answer->bytes[0], 0, 64); */
+    if (word == (uint32_t)SILENT) {
         return;
-    put_address(answer, device, word);
-    put(answer, ",i");
-    end_text(answer);
-    put_int(answer, attempt);
+    }
+    answer->length = (uint32_t)address_end_of(number, word) + 8u;
+    /*@ loop invariant 0 <= i <= 64;
+        loop invariant \forall integer k; 0 <= k < i ==> answer->bytes[k] == answer_byte(number, word, attempt, k);
+        loop assigns i, answer->bytes[0 .. 63];
+        loop variant 64 - i; */
+    for (i = 0; i < sizeof answer->bytes; i++) {
+        answer->bytes[i] = answer_byte_of(number, word, attempt, i);
+    }
+    /*@ assert goes_to(answer, device); */
+}
+
+/* Answers go there from now on. */
+/*@ requires \valid(device) && \valid_read(from) && \separated(device, from);
+    terminates \true;
+    assigns device->controller;
+    ensures is_controller(device, from);
+    ensures same_name{Pre, Post}(device) && same_heard{Pre, Post}(device) && same_work{Pre, Post}(device)
+      && same_phase{Pre, Post}(device); */
+static void answer_to(struct cue_device *device, const struct cue_place *from)
+{
+    copy(device->controller.bytes, from->bytes, sizeof from->bytes);
+}
+
+/* The same, and answers go there from now on. */
+/*@ requires \valid(answer) && \valid(device) && \valid_read(from);
+    requires \separated(answer, device) && \separated(device, from) && \separated(answer, from);
+    requires device->number <= MOST_NUMBER && word <= ABORT;
+    terminates \true;
+    assigns *answer, device->controller;
+    ensures says(answer, device, word, attempt) && is_controller(device, from);
+    ensures same_name{Pre, Post}(device) && same_heard{Pre, Post}(device) && same_work{Pre, Post}(device)
+      && same_phase{Pre, Post}(device); */
+static void say_to(struct cue_answer *answer, struct cue_device *device, const struct cue_place *from, uint32_t word,
+                   uint32_t attempt)
+{
+    answer_to(device, from);
+    say(answer, device, word, attempt);
 }
 
 /* ---- the tables of docs/DEVICES.md, "What a device makes of each order" */
-
-/* The columns 1 to 4. */
-enum column { SAME_STANDBY, OTHER_STANDBY, GO, CANCEL, COLUMNS };
 
 /* What is answered, what the machine begins, and the phase from then on. */
 struct cell {
@@ -237,7 +644,7 @@ struct cell {
 };
 
 /* The number of the order is the highest that the device has heard of: the rows by its phase. */
-static const struct cell KNOWN[CUE_FAILED + 1][COLUMNS] = {
+static const struct cell KNOWN[CUE_FAILED + 1][CANCEL + 1] = {
     [CUE_PREPARING] = {{SILENT, CUE_NO_ORDER, CUE_PREPARING},   /* A1 */
                        {ABORT, CUE_GIVE_UP, CUE_FAILED},        /* A2 */
                        {ABORT, CUE_NO_ORDER, CUE_FAILED},       /* A3 */
@@ -270,7 +677,7 @@ static const struct cell KNOWN[CUE_FAILED + 1][COLUMNS] = {
 
 /* The number is higher: where the machine is free, and where it still does what a lower one asked for. No standby of a
  * new number is a copy. */
-static const struct cell HIGHER[2][COLUMNS] = {
+static const struct cell HIGHER[2][CANCEL + 1] = {
     {[OTHER_STANDBY] = {SILENT, CUE_PREPARE, CUE_PREPARING}, /* H1 */
      [GO] = {ABORT, CUE_NO_ORDER, CUE_FAILED},               /* H3 */
      [CANCEL] = {CANCELLED, CUE_NO_ORDER, CUE_LET_GO}},      /* H4 */
@@ -279,220 +686,439 @@ static const struct cell HIGHER[2][COLUMNS] = {
      [CANCEL] = {CANCELLED, CUE_NO_ORDER, CUE_LET_GO}},      /* I4 */
 };
 
-/* ---- an order of the controller */
-
-struct order {
-    enum column column;
-    uint32_t attempt;
-    struct span cue, bytes; /* of a standby */
-};
-
-/* Whether the device has heard this very standby: the same cue and the same bytes. */
-static bool is_copy(const struct cue_device *device, const struct order *order)
+/* The cell of a known number. */
+/*@ requires CUE_PREPARING <= phase <= CUE_FAILED && column <= CANCEL;
+    terminates \true;
+    assigns \nothing;
+    ensures \result.word == known_word(phase, column);
+    ensures \result.order == known_order(phase, column);
+    ensures \result.phase == known_phase(phase, column);
+    ensures \result.word <= ABORT && \result.order <= CUE_GIVE_UP && 1 <= \result.phase <= CUE_FAILED; */
+static struct cell known_cell(uint32_t phase, uint32_t column)
 {
-    return order->attempt == device->last && order->cue.length == device->cue_length &&
-           order->bytes.length == device->bytes_length &&
-           is_same(order->cue.bytes, device->cue, order->cue.length) &&
-           is_same(order->bytes.bytes, device->bytes, order->bytes.length);
+    return KNOWN[phase][column];
 }
 
-/* Reads an order for this device: exactly the bytes of the protocol, and no byte more. */
-static bool read_order(struct order *order, struct reader reader, const struct cue_device *device)
+/* The cell of a higher number. */
+/*@ requires OTHER_STANDBY <= column <= CANCEL;
+    terminates \true;
+    assigns \nothing;
+    ensures \result.word == higher_word(is_at_work, column);
+    ensures \result.order == higher_order(is_at_work, column);
+    ensures \result.phase == higher_phase(is_at_work, column);
+    ensures \result.word <= ABORT && \result.order <= CUE_GIVE_UP && 1 <= \result.phase <= CUE_FAILED; */
+static struct cell higher_cell(bool is_at_work, uint32_t column)
 {
-    const struct span address = take_text(&reader), tags = take_text(&reader);
-    const bool is_standby = is_text(address, "/msc/standby");
-    uint32_t number;
-    if (!is_standby && !is_text(address, "/msc/go_2pc") && !is_text(address, "/msc/cancel"))
-        return false;
-    order->attempt = take_int(&reader);
-    number = take_int(&reader);
-    order->cue = is_standby ? take_text(&reader) : take(&reader, 0, 0);
-    order->bytes = is_standby ? take_blob(&reader) : take(&reader, 0, 0);
-    if (reader.is_bad || reader.left.length > 0 || !is_text(tags, is_standby ? ",iisb" : ",ii"))
-        return false;
-    if (order->attempt < 1 || order->attempt > MOST_ATTEMPT || number != device->number)
-        return false;
-    if (is_standby && !is_cue(order->cue))
-        return false;
-    if (is_standby)
-        order->column = is_copy(device, order) ? SAME_STANDBY : OTHER_STANDBY;
-    else
-        order->column = is_text(address, "/msc/go_2pc") ? GO : CANCEL;
-    return true;
+    return HIGHER[is_at_work ? 1 : 0][column];
 }
 
 /* A higher number ends the attempt before it. */
-static void begin(struct cue_device *device, const struct order *order)
+/*@ requires \valid(device) && order.cue_length <= MOST_CUE && order.bytes_length <= MOST_BYTES;
+    requires \valid_read(datagram + (order.cue_at .. order.cue_at + order.cue_length - 1));
+    requires \valid_read(datagram + (order.bytes_at .. order.bytes_at + order.bytes_length - 1));
+    requires \separated(device, datagram + (order.cue_at .. order.cue_at + order.cue_length - 1));
+    requires \separated(device, datagram + (order.bytes_at .. order.bytes_at + order.bytes_length - 1));
+    terminates \true;
+    assigns device->last, device->unheard, device->cue_length, device->bytes_length, device->cue[0 .. 15],
+      device->bytes[0 .. 31];
+    ensures device->last == order.attempt && device->unheard == 0;
+    ensures device->cue_length == order.cue_length && device->bytes_length == order.bytes_length;
+    ensures is_kept(&device->cue[0], 16, datagram + order.cue_at, order.cue_length);
+    ensures is_kept(&device->bytes[0], 32, datagram + order.bytes_at, order.bytes_length);
+    ensures same_name{Pre, Post}(device) && same_work{Pre, Post}(device) && same_controller{Pre, Post}(device); */
+static void begin(struct cue_device *device, const uint8_t *datagram, struct order order)
 {
-    device->last = order->attempt;
+    device->last = order.attempt;
     device->unheard = 0;
-    device->cue_length = (uint32_t)order->cue.length;
-    device->bytes_length = (uint32_t)order->bytes.length;
-    clear(device->cue, sizeof device->cue);
-    clear(device->bytes, sizeof device->bytes);
-    copy(device->cue, order->cue.bytes, order->cue.length);
-    copy(device->bytes, order->bytes.bytes, order->bytes.length);
+    device->cue_length = (uint32_t)order.cue_length;
+    device->bytes_length = (uint32_t)order.bytes_length;
+    keep(device->cue, sizeof device->cue, datagram + order.cue_at, order.cue_length);
+    keep(device->bytes, sizeof device->bytes, datagram + order.bytes_at, order.bytes_length);
+    /*@ assert is_kept(&device->cue[0], 16, datagram + order.cue_at, order.cue_length); */
 }
 
-static uint32_t obey(struct cue_device *device, const struct order *order, struct cue_answer *answer)
+/* An order that is late changes nothing but where answers go. */
+/*@ requires \valid(device) && \valid(answer) && \valid_read(from);
+    requires \separated(device, answer) && \separated(device, from) && \separated(answer, from);
+    requires device->number <= MOST_NUMBER && column <= CANCEL;
+    terminates \true;
+    assigns *answer, device->controller;
+    ensures obeys_late{Pre, Post}(device, answer, \result, column, attempt);
+    ensures same_name{Pre, Post}(device) && is_controller(device, from); */
+static uint32_t obey_late(struct cue_device *device, const struct cue_place *from, uint32_t column, uint32_t attempt,
+                          struct cue_answer *answer)
 {
-    const struct cell *cell;
-    if (order->attempt < device->last || (order->attempt == device->last && device->phase == CUE_OVER)) {
-        say(answer, device, order->column == CANCEL ? CANCELLED : ABORT, order->attempt); /* J1, J3, J4 */
-        return CUE_NO_ORDER;
-    }
-    if (order->attempt == device->last) {
-        cell = &KNOWN[device->phase][order->column];
-    } else {
-        cell = &HIGHER[device->doing == CUE_NO_ORDER ? 0 : 1][order->column];
-        begin(device, order);
-    }
-    device->phase = cell->phase;
-    if (cell->order != CUE_NO_ORDER) {
-        device->doing = cell->order;
+    say_to(answer, device, from, column == (uint32_t)CANCEL ? (uint32_t)CANCELLED : (uint32_t)ABORT, attempt); /* J */
+    return CUE_NO_ORDER;
+}
+
+/* Takes what a cell says. */
+/*@ requires \valid(device) && \valid(answer) && \valid_read(from);
+    requires \separated(device, answer) && \separated(device, from) && \separated(answer, from);
+    requires device->number <= MOST_NUMBER && cell.word <= ABORT;
+    terminates \true;
+    assigns device->phase, device->doing, device->doing_number, device->controller, *answer;
+    ensures takes{Pre, Post}(device, answer, \result, cell.word, cell.order, cell.phase);
+    ensures same_name{Pre, Post}(device) && is_controller(device, from); */
+static uint32_t take(struct cue_device *device, const struct cue_place *from, struct cell cell,
+                     struct cue_answer *answer)
+{
+    device->phase = cell.phase;
+    if (cell.order != (uint8_t)CUE_NO_ORDER) {
+        device->doing = cell.order;
         device->doing_number = device->last;
     }
-    say(answer, device, cell->word, device->last);
-    return cell->order;
+    /*@ assert begins{Pre, Here}(device, cell.order); */
+    /*@ assert same_name{Pre, Here}(device) && same_heard{Pre, Here}(device); */
+    say_to(answer, device, from, cell.word, device->last);
+    /*@ assert begins{Pre, Here}(device, cell.order); */
+    /*@ assert same_name{Pre, Here}(device); */
+    /*@ assert same_heard{Pre, Here}(device); */
+    return cell.order;
 }
 
-/* Whether it is the controller's reply to an abort of this device; its four numbers may be any. The empty answer lends
- * its bytes for the address that the reply has to have as its text, and is empty again. */
-static bool is_reply_to_abort(struct reader reader, const struct cue_device *device, struct cue_answer *empty)
+/* An order of the highest number that it has heard of. */
+/*@ requires \valid(device) && \valid(answer) && \valid_read(from);
+    requires \separated(device, answer) && \separated(device, from) && \separated(answer, from);
+    requires device->number <= MOST_NUMBER && CUE_PREPARING <= device->phase <= CUE_FAILED && column <= CANCEL;
+    terminates \true;
+    assigns device->phase, device->doing, device->doing_number, device->controller, *answer;
+    ensures obeys_known{Pre, Post}(device, answer, \result, column);
+    ensures same_name{Pre, Post}(device) && is_controller(device, from); */
+static uint32_t obey_known(struct cue_device *device, const struct cue_place *from, uint32_t column,
+                           struct cue_answer *answer)
 {
-    const struct span address = take_text(&reader), tags = take_text(&reader), text = take_text(&reader);
-    bool is_of_abort;
-    put_address(empty, device, ABORT);
-    is_of_abort = is_text(text, (const char *)empty->bytes);
-    say_nothing(empty);
-    return is_of_abort && is_text(address, "/reply") && is_text(tags, ",siiii") && !reader.is_bad &&
-           reader.left.length == 16;
+    return take(device, from, known_cell(device->phase, column), answer);
+}
+
+/* An order of a higher number. */
+/*@ requires \valid(device) && \valid(answer) && \valid_read(from);
+    requires \separated(device, answer) && \separated(device, from) && \separated(answer, from);
+    requires device->number <= MOST_NUMBER && OTHER_STANDBY <= order.column <= CANCEL;
+    requires order.cue_length <= MOST_CUE && order.bytes_length <= MOST_BYTES;
+    requires order.column <= OTHER_STANDBY ==> order.cue_at == 32 && order.bytes_at == blob_at(order.cue_length) + 4;
+    requires order.column >= GO ==> order.cue_length == 0 && order.bytes_length == 0;
+    requires \valid_read(datagram + (order.cue_at .. order.cue_at + order.cue_length - 1));
+    requires \valid_read(datagram + (order.bytes_at .. order.bytes_at + order.bytes_length - 1));
+    requires \separated(device, datagram + (order.cue_at .. order.cue_at + order.cue_length - 1));
+    requires \separated(device, datagram + (order.bytes_at .. order.bytes_at + order.bytes_length - 1));
+    terminates \true;
+    assigns *device, *answer;
+    ensures obeys_higher{Pre, Post}(device, datagram, answer, \result, order.column, order.attempt, order.cue_length,
+                                    order.bytes_length);
+    ensures same_name{Pre, Post}(device) && is_controller(device, from); */
+static uint32_t obey_higher(struct cue_device *device, const struct cue_place *from, const uint8_t *datagram,
+                            struct order order, struct cue_answer *answer)
+{
+    const struct cell cell = higher_cell(device->doing != (uint32_t)CUE_NO_ORDER, (uint32_t)order.column);
+    begin(device, datagram, order);
+    /*@ assert heard_new{Pre, Here}(device, datagram, order.attempt, order.cue_length, order.bytes_length); */
+    return take(device, from, cell, answer);
+}
+
+/*@ requires \valid(device) && \valid(answer) && \valid_read(from);
+    requires \separated(device, answer) && \separated(device, from) && \separated(answer, from);
+    requires device->number <= MOST_NUMBER && device->phase <= CUE_FAILED && order.column <= CANCEL;
+    requires order.column == SAME_STANDBY ==> order.attempt == device->last;
+    requires order.cue_length <= MOST_CUE && order.bytes_length <= MOST_BYTES;
+    requires order.column <= OTHER_STANDBY ==> order.cue_at == 32 && order.bytes_at == blob_at(order.cue_length) + 4;
+    requires order.column >= GO ==> order.cue_length == 0 && order.bytes_length == 0;
+    requires \valid_read(datagram + (order.cue_at .. order.cue_at + order.cue_length - 1));
+    requires \valid_read(datagram + (order.bytes_at .. order.bytes_at + order.bytes_length - 1));
+    requires \separated(device, datagram + (order.cue_at .. order.cue_at + order.cue_length - 1));
+    requires \separated(device, datagram + (order.bytes_at .. order.bytes_at + order.bytes_length - 1));
+    terminates \true;
+    assigns *device, *answer;
+    ensures obeys{Pre, Post}(device, datagram, answer, \result, order.column, order.attempt, order.cue_length,
+                             order.bytes_length);
+    ensures is_controller(device, from); */
+static uint32_t obey(struct cue_device *device, const struct cue_place *from, const uint8_t *datagram,
+                     struct order order, struct cue_answer *answer)
+{
+    if (order.attempt < device->last ||
+        (order.attempt == device->last && device->phase == (uint32_t)CUE_OVER)) {
+        return obey_late(device, from, (uint32_t)order.column, order.attempt, answer);
+    }
+    if (order.attempt == device->last) {
+        return obey_known(device, from, (uint32_t)order.column, answer);
+    }
+    return obey_higher(device, from, datagram, order, answer);
 }
 
 /* ---- a device */
 
 /* The header made the struct, and each number is in its range. */
-static bool is_device(const struct cue_device *device)
+/*@ requires \valid_read(device);
+    terminates \true;
+    assigns \nothing;
+    ensures \result ==> is_device(device);
+    ensures is_device(device) ==> \result; */
+static bool is_whole(const struct cue_device *device)
 {
-    const struct span cue = {device->cue, (size_t)(device->cue_length & 31)};
     return device->magic == CUE_MAGIC && device->size == sizeof *device && device->number <= MOST_NUMBER &&
-           device->phase <= CUE_FAILED && device->doing <= CUE_GIVE_UP && device->unheard <= 1 &&
-           device->bytes_length <= MOST_BYTES &&
-           (device->cue_length == 0 || (device->cue_length <= MOST_CUE && is_cue(cue)));
+           device->phase <= (uint32_t)CUE_FAILED && device->doing <= (uint32_t)CUE_GIVE_UP &&
+           device->unheard <= 1u && device->bytes_length <= MOST_BYTES &&
+           (device->cue_length == 0u ||
+            (device->cue_length <= MOST_CUE && is_cue_number(device->cue, (size_t)device->cue_length)));
 }
 
+/* Makes a device that has heard of this number, and of nothing else. */
+/*@ requires \valid(device) && number <= MOST_NUMBER && kept <= MOST_ATTEMPT;
+    terminates \true;
+    assigns *device;
+    ensures is_new(device) && is_device(device) && device->number == number && device->last == kept;
+    ensures device->unheard == (kept > 0 ? 1 : 0);
+    ensures zeros(&device->controller.bytes[0], 0, 8); */
+static void make(struct cue_device *device, uint32_t number, uint32_t kept)
+{
+    clear(device->cue, sizeof device->cue);
+    clear(device->bytes, sizeof device->bytes);
+    clear(device->controller.bytes, sizeof device->controller.bytes);
+    clear(device->only.bytes, sizeof device->only.bytes);
+    /*@ assert zeros(&device->cue[0], 0, 16); */
+    /*@ assert zeros(&device->bytes[0], 0, 32); */
+    /*@ assert zeros(&device->controller.bytes[0], 0, 8); */
+    /*@ assert zeros(&device->only.bytes[0], 0, 8); */
+    device->magic = CUE_MAGIC;
+    device->size = (uint32_t)sizeof *device;
+    device->number = number;
+    device->last = kept;
+    device->phase = CUE_OVER;
+    device->doing = CUE_NO_ORDER;
+    device->doing_number = 0;
+    device->unheard = 0;
+    if (kept > 0u) {
+        device->unheard = 1; /* O: cue_tick says so */
+    }
+    device->cue_length = 0;
+    device->bytes_length = 0;
+}
+
+/*@ requires \valid(device);
+    terminates \true;
+    assigns *device;
+    ensures size != sizeof(struct cue_device) || number > MOST_NUMBER ==>
+      \result == CUE_BAD_CALL && same{Pre, Post}(device);
+    ensures size == sizeof(struct cue_device) && number <= MOST_NUMBER ==>
+      \result == CUE_NO_ORDER && is_device(device) && device->number == number && is_new(device)
+      && device->last == 0 && device->unheard == 0 && zeros(&device->controller.bytes[0], 0, 8); */
 uint32_t cue_device_new(struct cue_device *device, uint32_t size, uint32_t number)
 {
-    if (size != sizeof *device || number > MOST_NUMBER)
+    if (size != sizeof *device || number > MOST_NUMBER) {
         return CUE_BAD_CALL;
-    clear((uint8_t *)device, sizeof *device);
-    device->magic = CUE_MAGIC;
-    device->size = sizeof *device;
-    device->number = number;
+    }
+    make(device, number, 0);
     return CUE_NO_ORDER;
 }
 
+/*@ requires \valid(device) && \valid_read(from) && \separated(device, from);
+    terminates \true;
+    assigns *device;
+    ensures size != sizeof(struct cue_device) || number > MOST_NUMBER || kept > MOST_ATTEMPT
+      || (kept > 0 && is_no_place{Pre}(from)) ==> \result == CUE_BAD_CALL && same{Pre, Post}(device);
+    ensures size == sizeof(struct cue_device) && number <= MOST_NUMBER && kept <= MOST_ATTEMPT
+      && (kept == 0 || !is_no_place{Pre}(from)) ==>
+      \result == CUE_NO_ORDER && is_device(device) && device->number == number && is_new(device)
+      && device->last == kept && device->unheard == (kept > 0 ? 1 : 0) && is_controller(device, from); */
 uint32_t cue_device_restarted(struct cue_device *device, uint32_t size, uint32_t number, uint32_t kept,
                               const struct cue_place *from)
 {
-    if (kept > MOST_ATTEMPT || (kept > 0 && is_no_place(from)))
+    if (size != sizeof *device || number > MOST_NUMBER || kept > MOST_ATTEMPT) {
         return CUE_BAD_CALL;
-    if (cue_device_new(device, size, number) == CUE_BAD_CALL)
+    }
+    if (kept > 0u && is_nowhere(from->bytes)) {
         return CUE_BAD_CALL;
-    device->last = kept;
-    device->unheard = kept > 0; /* O: cue_tick says so */
-    copy(device->controller.bytes, from->bytes, sizeof from->bytes);
+    }
+    make(device, number, kept);
+    answer_to(device, from);
     return CUE_NO_ORDER;
 }
 
+/*@ requires \valid(device) && \valid_read(sender) && \separated(device, sender);
+    terminates \true;
+    assigns *device;
+    ensures !is_device{Pre}(device) ==> \result == CUE_BAD_CALL && same{Pre, Post}(device);
+    ensures is_device{Pre}(device) ==> \result == CUE_NO_ORDER
+      && (\forall integer k; 0 <= k < 8 ==> device->only.bytes[k] == sender->bytes[k])
+      && device->number == \old(device->number) && same_heard{Pre, Post}(device) && same_work{Pre, Post}(device)
+      && same_phase{Pre, Post}(device) && same_controller{Pre, Post}(device); */
 uint32_t cue_device_hear_only(struct cue_device *device, const struct cue_place *sender)
 {
-    if (!is_device(device))
+    if (!is_whole(device)) {
         return CUE_BAD_CALL;
+    }
     copy(device->only.bytes, sender->bytes, sizeof sender->bytes);
     return CUE_NO_ORDER;
 }
 
+/* What is no order: only a reply to its abort counts. */
+/*@ requires \valid(device) && \valid(answer) && \valid_read(datagram + (0 .. length - 1));
+    requires \separated(device, answer);
+    requires \separated(device, datagram + (0 .. length - 1)) && \separated(answer, datagram + (0 .. length - 1));
+    requires length <= 65535 && is_device(device);
+    terminates \true;
+    assigns device->unheard, *answer;
+    ensures passes_over{Pre, Post}(device, datagram, length, answer, \result); */
+static uint32_t pass_over(struct cue_device *device, const uint8_t *datagram, size_t length, struct cue_answer *answer)
+{
+    if (is_reply(datagram, length, device->number)) {
+        device->unheard = 0;
+    }
+    say(answer, device, SILENT, 0);
+    return CUE_NO_ORDER;
+}
+
+/* Hears a datagram of a sender that is heard. */
+/*@ requires \valid(device) && \valid_read(from) && \valid(answer) && \valid_read(datagram + (0 .. length - 1));
+    requires \separated(device, answer) && \separated(device, from) && \separated(answer, from);
+    requires \separated(device, datagram + (0 .. length - 1)) && \separated(answer, datagram + (0 .. length - 1));
+    requires length <= 65535 && is_device(device);
+    terminates \true;
+    assigns *device, *answer;
+    ensures makes_of{Pre, Post}(device, from, datagram, length, answer, \result); */
+static uint32_t hear(struct cue_device *device, const struct cue_place *from, const uint8_t *datagram, size_t length,
+                     struct cue_answer *answer)
+{
+    const struct order order = order_of(device, datagram, length);
+    if (order.column == NO_COLUMN) {
+        return pass_over(device, datagram, length, answer);
+    }
+    return obey(device, from, datagram, order, answer);
+}
+
+/* Whether it hears this sender. */
+/*@ requires \valid_read(device) && \valid_read(from);
+    terminates \true;
+    assigns \nothing;
+    ensures \result ==> hears(device, from);
+    ensures hears(device, from) ==> \result; */
+static bool is_heard(const struct cue_device *device, const struct cue_place *from)
+{
+    return is_nowhere(device->only.bytes) || is_same(device->only.bytes, from->bytes, sizeof from->bytes);
+}
+
+/*@ requires \valid(device) && \valid_read(from) && \valid(answer) && \valid_read(datagram + (0 .. length - 1));
+    requires \separated(device, answer) && \separated(device, from) && \separated(answer, from);
+    requires \separated(device, datagram + (0 .. length - 1)) && \separated(answer, datagram + (0 .. length - 1));
+    requires length <= 65535;
+    terminates \true;
+    assigns *device, *answer;
+    ensures !is_device{Pre}(device) ==> \result == CUE_BAD_CALL && is_silent(answer) && same{Pre, Post}(device);
+    ensures is_device{Pre}(device) && !hears{Pre}(device, from) ==>
+      \result == CUE_NO_ORDER && is_silent(answer) && same{Pre, Post}(device);
+    ensures is_device{Pre}(device) && hears{Pre}(device, from) ==>
+      makes_of{Pre, Post}(device, from, datagram, length, answer, \result); */
 uint32_t cue_device_hear(struct cue_device *device, const struct cue_place *from, const uint8_t *datagram,
                          size_t length, struct cue_answer *answer)
 {
-    const struct reader reader = {{datagram, length}, false};
-    struct order order;
-    if (!is_device(device))
-        return bad_call(answer);
-    say_nothing(answer);
-    if (!is_no_place(&device->only) && !is_same(device->only.bytes, from->bytes, sizeof from->bytes))
-        return CUE_NO_ORDER;
-    if (read_order(&order, reader, device)) {
-        copy(device->controller.bytes, from->bytes, sizeof from->bytes);
-        return obey(device, &order, answer);
+    if (!is_whole(device)) {
+        return refuse(device, answer);
     }
-    if (is_reply_to_abort(reader, device, answer))
-        device->unheard = 0;
-    say(answer, device, SILENT, device->last);
-    return CUE_NO_ORDER;
+    if (!is_heard(device, from)) {
+        (void)refuse(device, answer);
+        return CUE_NO_ORDER;
+    }
+    return hear(device, from, datagram, length, answer);
 }
 
 /* ---- reports of the machine */
 
-/* It has ended this order. The attempt may have gone on meanwhile: then it is free, and nothing is answered. */
-static uint32_t report(struct cue_device *device, uint32_t ended, struct cell end, uint32_t phase,
-                       struct cue_answer *answer)
+/* The machine is free; the attempt is in this phase from now on. */
+/*@ requires \valid(device);
+    terminates \true;
+    assigns device->phase, device->doing, device->doing_number, device->unheard;
+    ensures is_free(device) && device->phase == phase && device->unheard == unheard;
+    ensures same_but_phase{Pre, Post}(device); */
+static void is_done(struct cue_device *device, uint32_t phase, uint32_t unheard)
 {
-    bool is_current;
-    if (!is_device(device) || device->doing != ended)
-        return bad_call(answer);
-    is_current = device->doing_number == device->last && device->phase == phase;
     device->doing = CUE_NO_ORDER;
     device->doing_number = 0;
-    if (is_current)
-        device->phase = end.phase;
+    device->phase = phase;
+    device->unheard = unheard;
+}
+
+/* It has ended this order. The attempt may have gone on meanwhile: then it is free, and nothing is answered. */
+/*@ requires \valid(device) && \valid(answer) && \separated(device, answer);
+    requires end.word <= ABORT && end.order != CUE_NO_ORDER;
+    terminates \true;
+    assigns *device, *answer;
+    ensures ends{Pre, Post}(device, answer, \result, end.order, phase, end.word, end.phase); */
+static uint32_t report(struct cue_device *device, uint32_t phase, struct cell end, struct cue_answer *answer)
+{
+    bool is_current;
+    if (!is_whole(device) || device->doing != end.order) {
+        return refuse(device, answer);
+    }
+    is_current = device->doing_number == device->last && device->phase == phase;
+    is_done(device, is_current ? end.phase : device->phase, device->unheard);
     say(answer, device, is_current ? end.word : (uint32_t)SILENT, device->last);
     return CUE_NO_ORDER;
 }
 
+/*@ requires \valid(device) && \valid(answer) && \separated(device, answer);
+    terminates \true;
+    assigns *device, *answer;
+    ensures has_ended{Pre, Post}(device, answer, \result, CUE_PREPARE); */
 uint32_t cue_device_prepared(struct cue_device *device, struct cue_answer *answer)
 {
-    static const struct cell END = {STANDING_BY, CUE_NO_ORDER, CUE_READY}; /* K */
-    return report(device, CUE_PREPARE, END, CUE_PREPARING, answer);
+    static const struct cell END = {STANDING_BY, CUE_PREPARE, CUE_READY}; /* K */
+    return report(device, CUE_PREPARING, END, answer);
 }
 
+/*@ requires \valid(device) && \valid(answer) && \separated(device, answer);
+    terminates \true;
+    assigns *device, *answer;
+    ensures has_ended{Pre, Post}(device, answer, \result, CUE_MOVE); */
 uint32_t cue_device_moved(struct cue_device *device, struct cue_answer *answer)
 {
-    static const struct cell END = {COMPLETE, CUE_NO_ORDER, CUE_DONE}; /* L */
-    return report(device, CUE_MOVE, END, CUE_MOVING, answer);
+    static const struct cell END = {COMPLETE, CUE_MOVE, CUE_DONE}; /* L */
+    return report(device, CUE_MOVING, END, answer);
 }
 
+/*@ requires \valid(device) && \valid(answer) && \separated(device, answer);
+    terminates \true;
+    assigns *device, *answer;
+    ensures has_ended{Pre, Post}(device, answer, \result, CUE_GIVE_UP); */
 uint32_t cue_device_gave_up(struct cue_device *device, struct cue_answer *answer)
 {
-    static const struct cell END = {CANCELLED, CUE_NO_ORDER, CUE_LET_GO}; /* M */
-    return report(device, CUE_GIVE_UP, END, CUE_LETTING_GO, answer);
+    static const struct cell END = {CANCELLED, CUE_GIVE_UP, CUE_LET_GO}; /* M */
+    return report(device, CUE_LETTING_GO, END, answer);
 }
 
+/*@ requires \valid(device) && \valid(answer) && \separated(device, answer);
+    terminates \true;
+    assigns *device, *answer;
+    ensures cannot_go_on{Pre, Post}(device, answer, \result); */
 uint32_t cue_device_cannot(struct cue_device *device, struct cue_answer *answer)
 {
-    bool is_at_work, can_fail;
-    if (!is_device(device))
-        return bad_call(answer);
-    is_at_work = device->doing != CUE_NO_ORDER;
-    can_fail = (!is_at_work || device->doing_number == device->last) && device->phase != CUE_OVER &&
-               device->phase != CUE_DONE && device->phase != CUE_LET_GO;
-    if (!is_at_work && !can_fail)
-        return bad_call(answer);
-    device->doing = CUE_NO_ORDER;
-    device->doing_number = 0;
-    if (can_fail) { /* N */
-        device->phase = CUE_FAILED;
-        device->unheard = 1;
+    bool is_at_work, is_abort;
+    if (!is_whole(device)) {
+        return refuse(device, answer);
     }
-    say(answer, device, can_fail ? ABORT : SILENT, device->last);
+    is_at_work = device->doing != (uint32_t)CUE_NO_ORDER;
+    is_abort = (!is_at_work || device->doing_number == device->last) && device->phase != (uint32_t)CUE_OVER &&
+               device->phase != (uint32_t)CUE_DONE && device->phase != (uint32_t)CUE_LET_GO;
+    if (!is_at_work && !is_abort) {
+        return refuse(device, answer);
+    }
+    is_done(device, is_abort ? (uint32_t)CUE_FAILED : device->phase, is_abort ? 1u : device->unheard); /* N */
+    say(answer, device, is_abort ? (uint32_t)ABORT : (uint32_t)SILENT, device->last);
     return CUE_NO_ORDER;
 }
 
+/*@ requires \valid_read(device) && \valid(answer) && \separated(device, answer);
+    terminates \true;
+    assigns *answer;
+    ensures !is_device{Pre}(device) ==> \result == CUE_BAD_CALL && is_silent(answer);
+    ensures is_device{Pre}(device) ==> \result == CUE_NO_ORDER;
+    ensures is_device{Pre}(device) && \old(device->unheard) == 1 ==> says(answer, device, ABORT, \old(device->last));
+    ensures is_device{Pre}(device) && \old(device->unheard) == 0 ==> says(answer, device, SILENT, \old(device->last));
+    ensures same{Pre, Post}(device); */
 uint32_t cue_device_tick(const struct cue_device *device, struct cue_answer *answer)
 {
-    if (!is_device(device))
-        return bad_call(answer);
-    say(answer, device, device->unheard == 1 ? ABORT : SILENT, device->last);
+    if (!is_whole(device)) {
+        return refuse(device, answer);
+    }
+    say(answer, device, device->unheard == 1u ? (uint32_t)ABORT : (uint32_t)SILENT, device->last);
     return CUE_NO_ORDER;
 }

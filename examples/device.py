@@ -9,6 +9,7 @@ In the file KEPT it keeps the highest number that it has heard of, and where tha
     --prepare SECONDS    how long it prepares, 0 by default
     --motion SECONDS     how long it moves, 0 by default
     --fault SECONDS      so long after it is ready it finds that it cannot go on
+    --only ADDRESS:PORT  the one sender that it hears: give it in a show
 """
 import argparse
 import os
@@ -84,6 +85,7 @@ class Device:
     """It is in one attempt: the one with the highest number that it has heard of. Each lower number is over, and so is
     the one that it had kept before a restart."""
 
+    only = None  # the address and the port of the one sender that it hears; None: it hears each
     WORKS = ("preparing", "moving")
     NEXT = {"preparing": "standing_by", "moving": "complete", "standing_by": "abort", "abort": "abort"}
 
@@ -103,6 +105,8 @@ class Device:
 
     def hear(self, data, now):
         """What to answer to a datagram; None where there is nothing to say, or not yet."""
+        if self.only not in (None, self.sender):
+            return None
         abort = text("/reply") + text(",siiii") + text(f"/device/{self.number}/abort")
         if self.step == "abort" and data[:-16] == abort:
             self.is_heard = True
@@ -229,9 +233,13 @@ def main():
     for name, what in (("prepare", "it prepares"), ("motion", "it moves")):
         parser.add_argument(f"--{name}", type=float, default=0.0, metavar="SECONDS", help=f"how long {what}")
     parser.add_argument("--fault", type=float, metavar="SECONDS", help="so long after it is ready it cannot go on")
+    parser.add_argument("--only", metavar="ADDRESS:PORT", help="the one sender that it hears")
     words = parser.parse_args()
     kept = Kept(words.kept)
     device = Device(words.number, not words.unable, words.prepare, words.motion, words.fault, kept)
+    if words.only:
+        address, _, port = words.only.rpartition(":")
+        device.only = address, int(port)
     with socket.socket(socket.AF_INET, socket.SOCK_DGRAM) as wire:
         wire.bind(("127.0.0.1", words.port))
         run(wire, device)

@@ -1,11 +1,11 @@
 /* A winch for cuectl: a whole device on one socket and in one loop. Its motor is a clock, and prints a line for each
  * motion. docs/DEVICES.md shows how to build it.
  *
- *     winch NUMBER PORT KEPT [PREPARE MOVE [LET_GO]]
+ *     winch NUMBER PORT KEPT [PREPARE MOVE [LET_GO [ADDRESS PORT]]]
  *
  * NUMBER is 0 to 111, PORT is its port on 127.0.0.1. In the file KEPT it keeps the highest number that it has heard of,
  * and where that came from: remove it for a new show. PREPARE, MOVE and LET_GO say how many milliseconds its motor
- * takes. It hears each sender, as tools/try-device needs it: a device of a show calls cue_hear_only (14a).
+ * takes. ADDRESS and PORT are of the one sender that it hears (14a): give them in a show.
  *
  * On SIGUSR1 the motor finds that it cannot go on. */
 #include "cue_device.h"
@@ -35,7 +35,8 @@ static struct {
 
 static struct {
     int file;
-    uint32_t number; /* what the file holds: the highest number that the winch has heard of */
+    uint32_t count;  /* how many records were written; the newest one has it */
+    uint32_t number; /* what the newest one holds: the highest number that the winch has heard of */
     struct cue_place from;
 } kept;
 
@@ -51,40 +52,69 @@ static void end(const char *what)
     exit(1);
 }
 
-enum { LINE = 27 }; /* of the file: the number; the address and the port in hexadecimal */
+/* The file is a ring of records, as a flash needs it: each is written beside the last one, so that a loss of power can
+ * tear only one that was not acted on. A record is a line: a count that rises, the number, the address and the port in
+ * hexadecimal, and a checksum of all of that. */
+enum { SLOTS = 8, SUMMED = 36, LINE = 45 };
+
+/* The checksum: CRC-32. */
+static uint32_t sum_of(const char *text, size_t length)
+{
+    uint32_t sum = 0xffffffffu;
+    for (size_t i = 0; i < 8 * length; i++) {
+        uint32_t bit = (sum ^ (uint32_t)(uint8_t)text[i / 8] >> i % 8) & 1u;
+        sum = (sum >> 1) ^ (bit ? 0xedb88320u : 0u);
+    }
+    return ~sum;
+}
 
 /* A number that is new is on the disk before anything is done or answered for it. So no late copy from before a restart
  * moves the winch again. A winch that cannot keep it does nothing. */
 static void keep(uint32_t number, struct cue_place from)
 {
-    char line[LINE + 1];
-    snprintf(line, sizeof line, "%010u %08x %06x\n", (unsigned)number, (unsigned)cue_place_address(&from),
-             (unsigned)cue_place_port(&from));
-    if (pwrite(kept.file, line, LINE, 0) != LINE || fsync(kept.file) != 0)
+    char line[LINE + 20];
+    off_t slot = (off_t)(kept.count % SLOTS) * LINE;
+    snprintf(line, sizeof line, "%010u %010u %08x %04x ", (unsigned)kept.count + 1, (unsigned)number,
+             (unsigned)cue_place_address(&from), (unsigned)cue_place_port(&from));
+    snprintf(line + SUMMED, sizeof line - SUMMED, "%08x\n", (unsigned)sum_of(line, SUMMED));
+    if (pwrite(kept.file, line, LINE, slot) != LINE || fsync(kept.file) != 0)
         end("winch: the number cannot be kept");
+    kept.count++;
     kept.number = number;
     kept.from = from;
 }
 
-/* Opens the file of the number, and reads it. A new one has 0, and its folder is synced, so that the file stays. */
+/* Takes a record if it is whole, and newer than what was found before. */
+static void read_slot(const char *line)
+{
+    unsigned count, number, address, port, sum;
+    if (sscanf(line, "%10u %10u %8x %4x %8x", &count, &number, &address, &port, &sum) != 5 ||
+        sum != sum_of(line, SUMMED) || count <= kept.count)
+        return;
+    kept.count = count;
+    kept.number = number;
+    kept.from = cue_place_of(address, (uint16_t)port);
+}
+
+/* Opens the file of the number, and reads its newest whole record. If there is none, and the file is not empty, the
+ * winch does not start. A new file has 0, and its folder is synced, so that the file stays. */
 static void open_kept(const char *path)
 {
-    char line[LINE + 1] = "", folder[4096];
-    unsigned number = 0, address = 0, port = 0;
+    char lines[SLOTS * LINE + 1] = "", folder[4096];
     snprintf(folder, sizeof folder, "%s", path);
     kept.file = open(path, O_RDWR | O_CREAT, 0644);
     int around = open(dirname(folder), O_RDONLY);
     if (kept.file < 0 || around < 0 || fsync(around) != 0)
         end(path);
     close(around);
+    ssize_t length = pread(kept.file, lines, SLOTS * LINE, 0);
+    for (int slot = 0; slot < SLOTS; slot++)
+        read_slot(lines + slot * LINE);
     errno = EINVAL; /* where the file has something else */
-    ssize_t length = pread(kept.file, line, LINE, 0);
+    if (length != 0 && kept.count == 0)
+        end(path);
     if (length == 0)
         keep(0, kept.from);
-    else if (length != LINE || sscanf(line, "%10u %8x %6x", &number, &address, &port) != 3)
-        end(path);
-    kept.number = number;
-    kept.from = cue_place_of(address, (uint16_t)port);
 }
 
 static int64_t now(void)
@@ -178,6 +208,17 @@ static int64_t say_unasked(int wire, const struct cue_device *device, int64_t du
     return now() + TICK;
 }
 
+/* No other sender is heard from now on. */
+static void hear_only(struct cue_device *device, const char *address, const char *port)
+{
+    struct in_addr sender;
+    errno = EINVAL;
+    if (inet_pton(AF_INET, address, &sender) != 1)
+        end(address);
+    struct cue_place place = cue_place_of(ntohl(sender.s_addr), (uint16_t)atoi(port));
+    cue_hear_only(device, &place);
+}
+
 int main(int count, char **words)
 {
     struct cue_device device;
@@ -188,7 +229,9 @@ int main(int count, char **words)
         open_kept(words[3]);
     if (count < 4 || cue_restarted(&device, (uint32_t)atoi(words[1]), kept.number, &kept.from, &restarted.answer) !=
                          CUE_NO_ORDER)
-        return fprintf(stderr, "winch NUMBER PORT KEPT [PREPARE MOVE [LET_GO]]\n"), 2;
+        return fprintf(stderr, "winch NUMBER PORT KEPT [PREPARE MOVE [LET_GO [ADDRESS PORT]]]\n"), 2;
+    if (count > 8)
+        hear_only(&device, words[7], words[8]);
     here.sin_port = htons((uint16_t)atoi(words[2]));
     here.sin_addr.s_addr = htonl(INADDR_LOOPBACK);
     if (wire < 0 || bind(wire, (struct sockaddr *)&here, sizeof here) != 0)

@@ -96,9 +96,9 @@ uint32_t cue_device_tick(const struct cue_device *device, struct cue_answer *ans
 static inline struct cue_place cue_place_of(uint32_t address, uint16_t port)
 {
     struct cue_place place = {{0}};
-    int i;
-    for (i = 0; i < 4; i++)
-        place.bytes[i] = (uint8_t)(address >> (24 - 8 * i));
+    unsigned i;
+    for (i = 0; i < 4u; i++)
+        place.bytes[i] = (uint8_t)(address >> (24u - 8u * i));
     place.bytes[4] = (uint8_t)(port >> 8);
     place.bytes[5] = (uint8_t)port;
     return place;
@@ -145,7 +145,7 @@ static inline uint32_t cue_restarted(struct cue_device *device, uint32_t number,
     if (device == NULL || controller == NULL || answer == NULL)
         return cue_bad_call(answer);
     made = cue_device_restarted(device, (uint32_t)sizeof *device, number, kept, controller);
-    return made == CUE_BAD_CALL ? cue_bad_call(answer) : cue_device_tick(device, answer);
+    return made == (uint32_t)CUE_BAD_CALL ? cue_bad_call(answer) : cue_device_tick(device, answer);
 }
 
 /* Names the one sender whose datagrams the device hears from now on, by its address and port; no place: it hears each
@@ -159,15 +159,16 @@ static inline uint32_t cue_hear_only(struct cue_device *device, const struct cue
 /* A datagram of `length` bytes has come from there: call it for each one, also while the machine works. Gives what the
  * machine is to do now, for the attempt `device.last`. If that number or `device.controller` is not what you have
  * stored (compare with that, not with the call before), write both where they survive a loss of power, before you carry
- * the order out or send the answer. If you cannot, do neither, and stop or reset: the struct has gone on without you.
+ * the order out or send the answer. If it cannot be written, neither act nor answer, and reset: the struct already
+ * counts the order as heard.
  * What is no order for this device has CUE_NO_ORDER and no answer, and changes nothing; so has a datagram of a sender
  * that is not heard. A /reply to an abort ends its copies. */
 static inline uint32_t cue_hear(struct cue_device *device, const struct cue_place *from, const uint8_t *datagram,
                                 size_t length, struct cue_answer *answer)
 {
-    if (device == NULL || from == NULL || answer == NULL || (datagram == NULL && length > 0) || length > 65535)
+    if (device == NULL || from == NULL || answer == NULL || (datagram == NULL && length > 0u) || length > 65535u)
         return cue_bad_call(answer);
-    return cue_device_hear(device, from, datagram == NULL ? (const uint8_t *)"" : datagram, length, answer);
+    return cue_device_hear(device, from, datagram == NULL ? from->bytes : datagram, length, answer);
 }
 
 /* The machine has prepared: call it when the CUE_PREPARE in `device.doing` is done. If CUE_GIVE_UP came meanwhile, that

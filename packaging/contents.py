@@ -15,6 +15,7 @@ HERE = ROOT / "packaging"
 ARCHITECTURES = {"aarch64": "aarch64-unknown-linux-gnu", "x86_64": "x86_64-unknown-linux-gnu"}
 LIBRARIES = "usr/lib/x86_64-linux-gnu"
 UNITS = "usr/lib/systemd/system"
+MAKER = "usr/share/doc/libcue-device-dev"
 TESTER = "Plays the controller of cuectl against a device, and says which of its duties it breaks"
 
 
@@ -116,10 +117,15 @@ def device(tree, libraries, version, date):
     if "aarch64" in libraries:
         tree.copy(libraries["aarch64"], "usr/lib/cue-device/aarch64/libcue_device_c.a")
     prefix, libdir = "${pcfiledir}/../../..", "${pcfiledir}/.."
+    # without a library the C file itself stands in its place: one line builds a device with either
+    libs = "-L${libdir} -lcue_device_c" if "x86_64" in libraries else "${prefix}/share/cue-device/cue_device.c"
     tree.text(f"{LIBRARIES}/pkgconfig/cue_device.pc", fill(
-        (HERE / "cue_device.pc").read_text(), prefix=prefix, libdir=libdir, version=re.split("[+~]", version)[0]))
+        (HERE / "cue_device.pc").read_text(), prefix=prefix, libdir=libdir, libs=libs,
+        version=re.split("[+~]", version)[0]))
     for name in ("device/cue_device.c", "docs/vectors.txt", "docs/device-table.csv"):
         tree.copy(ROOT / name, "usr/share/cue-device/")
+    for name in ("table.h", "device.h", "calls.h"):
+        tree.copy(ROOT / "device" / "acsl" / name, "usr/share/cue-device/acsl/")
     tester = ROOT / "tools" / "try-device"
     tree.text("usr/bin/cue-try-device", tester.read_text().replace("#!/usr/bin/env python3", "#!/usr/bin/python3", 1),
               0o755)
@@ -127,9 +133,35 @@ def device(tree, libraries, version, date):
     tree.text("usr/share/man/man1/cue-try-device.1",
               manuals.as_printed("cue-try-device", TESTER, shown.partition("\n\n")[2], version, date))
     for name in ("winch.c", "device.py", "plc_device.st"):
-        tree.copy(ROOT / "examples" / name, "usr/share/doc/libcue-device-dev/examples/", 0o644)
-    for name in ("DEVICES.md", "PROTOCOL.md"):
-        tree.copy(ROOT / "docs" / name, "usr/share/doc/libcue-device-dev/docs/")
+        tree.copy(ROOT / "examples" / name, f"{MAKER}/examples/", 0o644)
+    for path in sorted((ROOT / "examples" / "osc").iterdir()):
+        tree.copy(path, f"{MAKER}/examples/osc/", 0o644)
+    for name in ("DEVICES.md", "PROTOCOL.md", "NETWORK.md"):
+        tree.text(f"{MAKER}/docs/{name}", for_maker((ROOT / "docs" / name).read_text()))
+
+
+# Where the package has what the pages of a maker link to.
+PLACES = {
+    "../include/cue_device.h": "/usr/include/cue_device.h",
+    "../device/cue_device.c": "/usr/share/cue-device/cue_device.c",
+    "../tools/try-device": "/usr/bin/cue-try-device",
+    "device-table.csv": "/usr/share/cue-device/device-table.csv",
+    "vectors.txt": "/usr/share/cue-device/vectors.txt",
+    **{name: name for name in ("DEVICES.md", "PROTOCOL.md", "NETWORK.md", "../examples/winch.c",
+                               "../examples/device.py", "../examples/plc_device.st", "../examples/osc")},
+}
+
+
+def for_maker(page):
+    """A page with its links to what the package has; words in place of each other one."""
+    def link(found):
+        name, _, part = found[2].partition("#")
+        if re.match(r"https?:", name):
+            return found[0]
+        place = PLACES.get(name) if name else ""
+        return found[1] if place is None else f"[{found[1]}]({place}{'#' + part if part else ''})"
+    page = re.sub(r"!\[[^]]*\]\([^)]*\)\n*", "", page).replace("python3 tools/try-device", "cue-try-device")
+    return re.sub(r"\[([^]]*)\]\(([^)]*)\)", link, page)
 
 
 def settle(tree, seconds):

@@ -15,7 +15,14 @@ HEAD = """\
   table { border-collapse: collapse; }
   td, th { border: 1px solid #999; padding: .3em .6em; text-align: left; vertical-align: top; }
   tr, pre, li { break-inside: avoid; }
-  @page { margin: 18mm; }
+  @page { size: A4; margin: 12mm; }
+  @media print {
+    body { font-size: 9pt; line-height: 1.22; margin: 0; max-width: none; padding: 0; }
+    h1 { font-size: 14pt; margin: 0; }
+    p, ul, ol, pre, table { margin: .35em 0; }
+    pre { padding: .2em 1em; }
+    td, th { padding: .15em .5em; }
+  }
 </style>
 <h1>The first evening</h1>
 """
@@ -53,6 +60,8 @@ def made():
                           " In a window:", text, flags=re.S)
     if count != 1:
         raise SystemExit("docs/OPERATING.md does not say how the programs are had")
+    if other := re.search(r"\w+\.md|\bsee \"|\bbelow\)", text):
+        raise SystemExit(f"the first evening of docs/OPERATING.md sends its reader to another page: {other[0]}")
     text = text.replace("./cue", "cue").replace("examples/evening.toml", "/usr/share/cuectl/evening.toml")
     drawn = {"table": table, "shown": shown, "items": listed}
     return HEAD + "\n".join(drawn.get(kind, lambda piece: f"<p>{words(piece)}</p>")(piece)

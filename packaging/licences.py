@@ -1,4 +1,4 @@
-"""The file `copyright` of a package: its own licence, which is none yet, and those of the libraries of the kit in it."""
+"""The file `copyright` of a package: its own licence, none yet, and those of the libraries of the kit in it."""
 import re
 import shutil
 import subprocess

@@ -3,7 +3,7 @@
 
     broken_device.py WHICH NUMBER PORT KEPT [the other words of examples/device.py]
 
-WHICH is a key of BROKEN; beside it is the id of the requirement. `two-positions` breaks none.
+WHICH is a key of BROKEN; beside it is the id of the requirement. Those of RIGHT break none.
 """
 import os
 import socket
@@ -290,12 +290,188 @@ class LetsGoByItself(Device):
 
 
 class TwoPositions(Device):
-    """It keeps its duties. Its machine may be driven to 00 and to 01; anything else ends it."""
+    """It keeps its duties. Its machine may be driven to 00 and to 01; anything else ends it. It begins at 00, is slower
+    on its way back, and has moved at once where it is already."""
+    at, to = 0, 0
 
     def on_standby(self, asked, now):
-        if asked[4:] not in (b"\0\0\0\1\0\0\0\0", b"\0\0\0\1\1\0\0\0"):
+        data = asked[take_text(asked, 0)[1]:]
+        if data not in (b"\0\0\0\1\0\0\0\0", b"\0\0\0\1\1\0\0\0"):
             os._exit(1)
+        if self.step is None:
+            self.to = data[4]
         return super().on_standby(asked, now)
+
+    def enter(self, step, now):
+        super().enter(step, now)
+        if step == "moving":
+            print("the motor moves", flush=True)
+            self.due = now + (0.0 if self.to == self.at else self.seconds["moving"] * (1 if self.to else 1.6))
+            self.at = self.to
+
+
+class SleepsInAllItDoes(SleepsWhileItMoves):
+    """It hears nothing until it has prepared or moved."""
+
+    def enter(self, step, now):
+        super().enter(step, now)
+        if step == "preparing":
+            time.sleep(self.seconds["preparing"])
+
+
+class CountsAttempts(Device):
+    """It answers with a count of its own attempts in place of the number."""
+    count, counted = 0, 0
+
+    def say(self, attempt, answer):
+        if attempt > self.counted and answer is not None:
+            self.count, self.counted = self.count + 1, attempt
+        return super().say(self.count, answer)
+
+
+class ReportsWhatItGaveUp(Device):
+    """A cancel takes the place of its preparing, and it still waits for the end of that: it is at work for good."""
+    stuck = False
+
+    def on_cancel(self, now):
+        if self.step == "preparing":
+            self.stuck, self.due = True, None
+            return None
+        return super().on_cancel(now)
+
+    def on_standby(self, asked, now):
+        if self.stuck and self.step is None:
+            self.enter("abort", now)
+        return super().on_standby(asked, now)
+
+
+class CompletesAtCopies(Device):
+    """It answers each copy of a go with complete, while it still moves; a standby then has to be refused."""
+    busy = 0.0
+
+    def enter(self, step, now):
+        super().enter(step, now)
+        if step == "moving":
+            self.busy = now + self.seconds["moving"]
+
+    def answer_to(self, address, attempt, asked, now):
+        if attempt == self.attempt and self.step == "moving" and address == "/msc/go_2pc":
+            return "complete"
+        return super().answer_to(address, attempt, asked, now)
+
+
+class EndsItsAbortsAtACopy(Device):
+    """A copy of the standby ends the aborts that nobody asked for."""
+
+    def on_standby(self, asked, now):
+        if self.step == "abort" and asked == self.asked:
+            self.due = None
+        return super().on_standby(asked, now)
+
+
+class ComparesAtMost(Device):
+    """It compares so many of the bytes of two standbys, and not their lengths."""
+    MOST = 1
+
+    def on_standby(self, asked, now):
+        if self.asked is not None and self.shortened(asked) == self.shortened(self.asked):
+            asked = self.asked
+        return super().on_standby(asked, now)
+
+    def shortened(self, asked):
+        cue, at = take_text(asked, 0)
+        count = int.from_bytes(asked[at:at + 4], "big")
+        return cue, asked[at + 4:at + 4 + min(count, self.MOST)]
+
+
+class ComparesSixteen(ComparesAtMost):
+    """It compares the first sixteen bytes."""
+    MOST = 16
+
+
+class KeepsItsFaultToItself(Device):
+    """It finds that it cannot go on, and says so when it is to go."""
+    fails = False
+
+    def tick(self, now):
+        if self.step == "standing_by" and self.due is not None and now >= self.due:
+            self.fails, self.due = True, None
+        return super().tick(now)
+
+    def on_go(self, now):
+        if self.fails and self.step == "standing_by":
+            self.enter("abort", now)
+        return super().on_go(now)
+
+
+class ReadsEightyEight(Device):
+    """It reads the first 88 bytes of a datagram, the most that an order has."""
+
+    def hear(self, data, now):
+        return super().hear(data[:88], now)
+
+
+class NumbersOfSixteenBits(Device):
+    """It keeps sixteen bits of a number, and answers with them."""
+
+    def say(self, attempt, answer):
+        return super().say(attempt & 0xffff, answer)
+
+
+class ShortCues(Device):
+    """It has room for a cue of eight bytes, and cannot prepare for a longer one."""
+
+    def on_standby(self, asked, now):
+        if self.step is None and len(take_text(asked, 0)[0]) > 8:
+            self.enter("abort", now)
+        return super().on_standby(asked, now)
+
+
+class HearsStrangers(Device):
+    """It hears cancels of anybody."""
+
+    def hear(self, data, now):
+        only, self.only = self.only, None if data.startswith(b"/msc/cancel") else self.only
+        try:
+            return super().hear(data, now)
+        finally:
+            self.only = only
+
+
+class SaysThatItIsReady(Device):
+    """It keeps its duties. While it is ready it says so four times a second."""
+
+    def enter(self, step, now):
+        super().enter(step, now)
+        if step == "standing_by":
+            self.due = now + 0.25
+
+    def tick(self, now):
+        if self.step != "standing_by":
+            return super().tick(now)
+        if now < self.due:
+            return None
+        self.due = now + 0.25
+        return message(f"/device/{self.number}/standing_by", self.attempt)
+
+
+class TwoAxes(Device):
+    """It keeps its duties, and shares its port with the device above it, which speaks from time to time. A standby for
+    that one ends both."""
+    speaks = 0.0
+
+    def hear(self, data, now):
+        address, at = words_of(data)
+        if data[at + 4:at + 8] == (self.number + 1).to_bytes(4, "big") and address != "/msc/cancel":
+            os._exit(1)
+        return super().hear(data, now)
+
+    def tick(self, now):
+        said = super().tick(now)
+        if said is None and self.controller and now > self.speaks:
+            self.speaks = now + 0.5
+            return message(f"/device/{self.number + 1}/standing_by", 7)
+        return said
 
 
 BROKEN = {
@@ -327,11 +503,26 @@ BROKEN = {
     "answers-a-fixed-port": (AnswersAFixedPort, "12b"),
     "lets-go-by-itself": (LetsGoByItself, "16a"),
     "moves-again-silently": (MovesAgainSilently, "2a"),
+    "sleeps-in-all-it-does-while-it-prepares": (SleepsInAllItDoes, "3a"),
+    "counts-attempts": (CountsAttempts, "12d"),
+    "reports-what-it-gave-up-while-it-prepares": (ReportsWhatItGaveUp, "1a"),
+    "completes-at-copies": (CompletesAtCopies, "2b"),
+    "ends-its-aborts-at-a-copy": (EndsItsAbortsAtACopy, "9c"),
+    "compares-one-byte": (ComparesAtMost, "6a"),
+    "compares-sixteen-bytes": (ComparesSixteen, "6a"),
+    "keeps-its-fault-to-itself": (KeepsItsFaultToItself, "17a"),
+    "reads-eighty-eight": (ReadsEightyEight, "10c"),
+    "numbers-of-sixteen-bits": (NumbersOfSixteenBits, "12d"),
+    "short-cues": (ShortCues, "1a"),
+    "hears-strangers": (HearsStrangers, "14a"),
 }
+RIGHT = {"two-positions": TwoPositions, "hears-one-sender": Device, "says-that-it-is-ready": SaysThatItIsReady,
+         "two-axes": TwoAxes}
 
 
 if __name__ == "__main__":
-    device.Device = {**BROKEN, "two-positions": (TwoPositions, "")}[sys.argv.pop(1)][0]
+    which = sys.argv.pop(1)
+    device.Device = RIGHT[which] if which in RIGHT else BROKEN[which][0]
     heard = device.receive
 
     def receive(wire, due):

@@ -10,7 +10,7 @@ from checking import check
 from shown import ROOT, blocks, section
 from typed import until
 
-PAGE = "docs/OPERATING.md"
+PAGE, LOG = "docs/OPERATING.md", "docs/LOG.md"
 say = model.message
 
 # What is typed after the first evening, in order, and what it prints. "idle" waits until nothing is stood by, "ready"
@@ -133,7 +133,7 @@ def refusals(evening):
 
 def log_of_the_evening(cuectl, work):
     """The log that the page shows is what serve writes, but for times and ports."""
-    lines = blocks(section(PAGE, "The log of the evening"))[0]
+    lines = blocks(section(LOG, "The log of the evening"))[0]
     serve = serving.served(cuectl, work / "log")
     desk, lamp = serving.Ears(serve), serving.free_port()
     winch = serving.Ears(serve, serving.device_port(11))

@@ -150,7 +150,7 @@ class Evening:
     def press_text(self, number, press, end):
         answer = self.ask(f"{number} {press}".encode())
         view = json.loads(answer.split(b"\r\n\r\n", 1)[1])["view"]
-        while view["said"] and view["said"]["kind"] == "open" and time.monotonic() < end:
+        while view["said"] and view["said"]["kind"] in ("open", "said") and time.monotonic() < end:
             time.sleep(0.02)
             view = self.view()
         return view["said"] and view["said"]["kind"]

@@ -40,7 +40,7 @@ def waits_for_two(page, evening):
     evening.stop("devices")
     goes_to(page, "6")
     page.click("standby")
-    check("GO waits for both", page.shows("go-cue", "waits for 8 Wagon, stage left, 9 Wagon, stage right"))
+    check("GO waits for both", page.shows("go-cue", "waits for 8 Wagon, stage left; 9 Wagon, stage right"))
     page.key("r")
     check("R says that there are two", page.shows("words", "R releases no device: cue 6 waits for 2 devices"))
     page.key("r")

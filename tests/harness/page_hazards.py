@@ -8,10 +8,10 @@ import time
 
 import model
 import serving
-from browser import Browser
+from browser import ESCAPE, Browser
 from checking import check
 from page_evening import Evening
-from page_scenes import chooses, ends, goes_to, is_lit
+from page_scenes import chooses, ends, goes_to, is_lit, sees
 
 SHOW = """[[device]]
 number = 3
@@ -77,6 +77,12 @@ def dark(page):
     return not page.find("go").is_enabled() and not page.find("standby").is_enabled()
 
 
+def was_seen(page, fault):
+    """The fault is an alarm until somebody says that it was seen."""
+    check(f"an alarm says so: {fault}", page.shows("alarms", fault))
+    check("seen, it is none", sees(page))
+
+
 def dies(page, evening):
     """serve is killed between STANDBY and GO."""
     stood_by(page, evening, "1")
@@ -99,7 +105,8 @@ def over(page, evening):
     check("its ten seconds run out", page.shows("live", "its ten seconds are over", 12))
     check("and it is not called ready", "GO can be given" not in page.text("live"))
     evening.serve.go_on()
-    check("then it is cancelled", ends(page, "1", "cancelled: ten seconds passed"))
+    check("then it is cancelled", ends(page, "1", "cancelled"))
+    was_seen(page, "ten seconds passed")
 
 
 def another(page, evening, work):
@@ -136,6 +143,19 @@ def two_ready(page, evening):
     check("then it is given", ends(page, "1", "complete"))
 
 
+def open_go(page, evening):
+    """GO is pressed while serve is held: it is open, and can be called off."""
+    stood_by(page, evening, "1")
+    evening.serve.hold()
+    page.key(" ")
+    check("the GO is open", page.shows("words", "nobody has replied", 1))
+    check("CANCEL is lit for it", page.waits_for(lambda: page.find("cancel").is_enabled(), 0.8))
+    page.key(ESCAPE)
+    check("and is sent", page.shows("words", "cancel 1", 1))
+    evening.serve.go_on()
+    check("the GO came first", page.shows("words", "refused: ") and ends(page, "1", "complete"))
+
+
 def end_of_stack(page, evening):
     """A standby that is cancelled after the last cue makes no cue 1 next."""
     evening.play()
@@ -166,7 +186,8 @@ def stopped_desk(page, evening):
     time.sleep(0.5)
     given = [attempt for attempt in evening.view()["live"] if attempt["stage"] == "given"]
     check("and the cue is not given", given == [] and "complete" not in page.text("last"))
-    check("it runs out", ends(page, "1", "cancelled: ten seconds passed"))
+    check("it runs out", ends(page, "1", "cancelled"))
+    was_seen(page, "ten seconds passed")
 
 
 def started_again(page, evening):
@@ -207,13 +228,30 @@ def late_reply(page, evening):
     check("the late reply to the first is not shown for it", "made" not in page.text("words"))
     fake.replies(fake.asked[1], 0)
     check("its own reply is", fake.plays(2, lambda: "refused" in page.text("words")))
+    page.key("s")
+    check("the third press comes", fake.plays(2, lambda: len(fake.asked) == 3))
+    fake.replies(fake.asked[2], 1)
+    check("a word without a store is a word", fake.plays(1, lambda: "the store does not show it yet" in page.text("words")))
+    check("and an alarm after a second", fake.plays(3, lambda: "and the store does not show it" in page.text("alarms")))
+    check("it is never called made", ": made" not in page.text("words"))
     fake.close()
     evening.serves(evening.folder)
     check("serve is there again", page.waits_for(lambda: page.find("standby").is_enabled()))
 
 
+def short_hazards(desk, cuectl, work):
+    """Those that the gate runs: GO beside a dead controller, and beside a desk that is stopped."""
+    played(desk, cuectl, work, (dies, stopped_desk))
+
+
 def hazards(desk, cuectl, work):
-    """Each of them, on a show of two cues."""
+    """Each of them."""
+    played(desk, cuectl, work, (dies, over, two_ready, open_go, end_of_stack, stopped_desk, started_again, late_reply,
+                                lambda page, evening: another(page, evening, work)))
+
+
+def played(desk, cuectl, work, scenes):
+    """These scenes in order, on a show of two cues."""
     text = SHOW.format(serving.device_port(18), serving.device_port(19))
     (work / "hazards").mkdir()
     evening, page = Evening(desk, cuectl, work / "hazards", text), Browser()
@@ -221,14 +259,8 @@ def hazards(desk, cuectl, work):
         page.open(f"http://127.0.0.1:{evening.http}/")
         evening.read_token()
         check("the page is there", page.shows("stack", "Storm"))
-        dies(page, evening)
-        over(page, evening)
-        two_ready(page, evening)
-        end_of_stack(page, evening)
-        stopped_desk(page, evening)
-        started_again(page, evening)
-        late_reply(page, evening)
-        another(page, evening, work)
+        for scene in scenes:
+            scene(page, evening)
         check("the browser has nothing against the page", page.complaints() == [])
     finally:
         page.close()

@@ -8,8 +8,8 @@ from checking import check
 from page_guard import guards
 from page_list import lists
 from page_look import is_allowed, is_kept, sounded, sounds
-from page_scenes import (begins, fails, follows, gives, goes_back, is_readable, is_refused, keys, loses_power,
-                         prepares, second_tab, stand_by_together)
+from page_scenes import (begins, ends, fails, follows, gives, goes_back, goes_to, is_lit, is_readable, is_refused, keys,
+                         loses_power, prepares, second_tab, stand_by_together)
 
 
 def sends_nothing(page, evening):
@@ -38,6 +38,25 @@ def terminal_picture(page, text, path):
     body = f"<body style='margin:0'><pre style=\"{style}\">{html.escape(text)}</pre>"
     page.open("data:text/html;charset=utf-8," + quote(body))
     page.picture(path)
+
+
+def keys_in_browser(evening):
+    """A cue is given by the page, and each key is pressed; nothing here has to come within a second."""
+    page = Browser()
+    try:
+        evening.play()
+        begins(page, evening)
+        gives(page, evening, "1")
+        prepares(page, evening, None)
+        is_refused(page, evening)
+        goes_to(page, "1")
+        page.key("s")
+        check("S stands by", is_lit(page, "1"))
+        page.key(" ")
+        check("the space bar is GO", ends(page, "1", "complete"))
+        check("the browser has nothing against the page", page.complaints() == [])
+    finally:
+        page.close()
 
 
 def in_browser(evening, pictures):

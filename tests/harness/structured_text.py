@@ -21,7 +21,7 @@ def expression(text):
 
 
 def body_of(text, names):
-    """The statements of a function, each as a line of Python."""
+    """The statements of a method, each as a line of Python."""
     lines, depth, cases, at = [f"global {', '.join(names)}"], 0, [], 0
     while text[at:].strip():
         found = STATEMENT.match(text, at)
@@ -52,18 +52,18 @@ class Plc:
 
     def __init__(self, text):
         text = re.sub(r"\(\*.*?\*\)", "", text, flags=re.S)
-        self.names = [name for block in re.findall(r"^VAR_GLOBAL.*?^END_VAR", text, re.M | re.S)
+        self.names = [name for block in re.findall(r"^VAR(?: RETAIN)?\n.*?^END_VAR", text, re.M | re.S)
                       for name in re.findall(r"^    (\w+) :", block, re.M)]
         types = re.findall(r"^TYPE \w+ : \((.*)\);", text, re.M)
         self.now = {word: word for words in types for word in words.split(", ")}
         self.now |= {"Same": lambda a, b: a == b, "Say": lambda word, number: self.said.append((word, number))}
-        for name, inside in re.findall(r"^FUNCTION (\w+) *\n(.*?)^END_FUNCTION", text, re.M | re.S):
-            inputs = re.findall(r"(\w+) :", "".join(re.findall(r"VAR_INPUT(.*?)END_VAR", inside)))
-            self.define(name, inputs, re.sub(r"VAR(?:_INPUT)?\b.*?END_VAR", "", inside, flags=re.S))
-        self.define("AtTheStart", [], text.partition("\nFUNCTION")[0].rpartition("END_VAR")[2])
+        for name, inside in re.findall(r"^METHOD \w+ (\w+)[^\n]*\n(.*?)^END_METHOD", text, re.M | re.S):
+            if name not in self.now:
+                inputs = re.findall(r"(\w+) :", "".join(re.findall(r"VAR_INPUT(.*?)END_VAR", inside)))
+                self.define(name, inputs, re.sub(r"VAR(?:_INPUT)?\b.*?END_VAR", "", inside, flags=re.S))
 
     def define(self, name, inputs, body):
-        """A function of these statements."""
+        """A method of these statements."""
         lines = body_of(body, self.names)
         exec(f"def {name}({', '.join(inputs)}):\n    " + "\n    ".join(lines), self.now)
 
@@ -72,7 +72,7 @@ class Plc:
         self.said = []
         self.now |= {"Last": last, "Phase": "OVER", "Doing": "NOTHING", "DoingNumber": 0, "Unheard": False, "Copies": 0,
                      "Asked": None, "IsAsked": False}
-        self.now["AtTheStart"]()
+        self.now["Restart"]()
 
     def begin(self, state):
         """It has come to this state."""
@@ -94,7 +94,7 @@ class Plc:
             word, number, asked = order
             self.now["Hear"]({"standby": "STANDBY", "go_2pc": "GO", "cancel": "CANCEL"}[word], number, asked, sender)
         elif state.is_reply(data):
-            self.now["Unheard"] = False
+            self.now["IsHeard"]()
 
     def is_in(self, state):
         """Whether it is in this state."""

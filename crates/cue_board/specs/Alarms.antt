@@ -37,6 +37,9 @@ alarm_words port at alarm.NobodyListens =
 alarm_words port at (alarm.Silent asked) = silent_words port at asked
 alarm_words port at (alarm.OtherStore since) =
     codes "these files are not those of the serve at port " ++ decimal port
+alarm_words port at (alarm.NotShown since) =
+    codes "serve at port " ++ (decimal port
+    ++ codes " says that the last press was carried out, and the store does not show it")
 alarm_words port at (alarm.RelayStopped since) = stopped_words at since
 alarm_words port at (alarm.Unread why) = trouble_words why
 alarm_words port at (alarm.Old read) = old_words at read

@@ -1,9 +1,10 @@
 -- The board: what each line says of the view, from its front on. Names and notes of the show file follow after that.
-use Rattle.std.specs.Prelude.{◌≡◌, ℕ, suc, Bool, true, false, ◌==◌, nat_le, length, replicate, ◌-◌, ◌/◌, find}
+use Rattle.std.specs.Prelude.{◌≡◌, ℕ, suc, Bool, true, false, ◌&&◌, ◌==◌, nat_le, length, replicate, ◌-◌, ◌/◌, find}
 use Rattle.std.specs.Prelude.{List, [], ◌∷◌, ◌++◌, map, take, drop, codes, string_bytes}
 use Rattle.std.specs.Prelude.{Option, None, Some, is_some, nat_eq, if◌then◌else◌}
 use Rattle.std.specs.Fmt.{decimal}
 use Rattle.std.specs.List.{flat_map}
+use Rattle.cue_exchange.specs.Answers.{is_decided, some_waits}
 use Rattle.cue_exchange.specs.declared.attempt.Answer.{Answer}
 use Rattle.cue_exchange.specs.declared.attempt.Answer.TheVariants as answer
 use Rattle.cue_exchange.specs.declared.attempt.DeviceAnswer.{DeviceAnswer}
@@ -196,9 +197,34 @@ abbrev pub words_of : ℕ → View → Alarm → List ℕ
 words_of port v (alarm.Failed q) = fault_or (alarm_words port v.at (alarm.Failed q)) (live_of q v.live.items)
 words_of port v a = alarm_words port v.at a
 
+-- no order reaches a device meanwhile: the controller or the relay has stopped
+abbrev pub holds_back : Alarm → Bool
+holds_back alarm.NobodyListens = true
+holds_back (alarm.Silent asked) = true
+holds_back (alarm.RelayStopped since) = true
+holds_back _ = false
+
+-- the cue was given, and waits for a device
+abbrev pub is_owed : LiveAttempt → Bool
+is_owed a = is_decided a.stage && some_waits a.devices
+
+-- the cue, and the devices that it waits for
+unfoldable pub owed_words : LiveAttempt → List ℕ
+owed_words a =
+    codes "OWED   once it is back, cue " ++ (a.cue ++ (codes " moves device" ++ numbers_of answer.Waiting a.devices))
+
+-- the line of an attempt whose GO is owed to devices of it
+unfoldable pub owed_line : LiveAttempt → List (List ℕ)
+owed_line a = if is_owed a then owed_words a ∷ [] else []
+
+-- what each cue that was given moves by itself, once what an alarm holds back is back
+abbrev pub owed_said : Alarm → List LiveAttempt → List (List ℕ)
+owed_said a live = if holds_back a then flat_map owed_line live else []
+
+-- an alarm, and what moves once it is over
 abbrev pub called : ℕ → View → Option Alarm → List (List ℕ)
 called port v None = []
-called port v (Some a) = (codes "ALARM  " ++ words_of port v a) ∷ []
+called port v (Some a) = (codes "ALARM  " ++ words_of port v a) ∷ owed_said a v.live.items
 
 abbrev pub alarm_said : ℕ → View → List (List ℕ)
 alarm_said port v = called port v (loudest v)

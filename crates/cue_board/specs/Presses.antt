@@ -24,6 +24,7 @@ nobody_words port = codes "not carried out: nobody listens at 127.0.0.1:" ++ dec
 abbrev pub plain_words : Became → List ℕ
 plain_words became.Made = codes "made"
 plain_words became.Known = codes "it was so already"
+plain_words became.Unshown = codes "serve says that it was carried out; the store does not show it yet"
 plain_words became.Over = codes "it was made, and the cue stands by no more"
 plain_words became.Carried = codes "no reply came; the store shows that it was carried out"
 plain_words became.Lost = codes "no reply came; the store shows that it was not carried out"
@@ -42,3 +43,4 @@ abbrev pub unsent_words : Unsent → List ℕ
 unsent_words unsent.Old = codes "not sent: what was shown is more than a second old; look, and press again"
 unsent_words unsent.Dark = codes "not sent: the button was not lit"
 unsent_words unsent.Changed = codes "not sent: it has changed meanwhile; look, and press again"
+unsent_words unsent.Again = codes "GO was pressed less than a second ago: the second tap did nothing"

@@ -70,6 +70,11 @@ pub fn alarm_words(alloc: Global, alarm: Alarm, at: u64, port: u16) -> Result<St
         Alarm::OtherStore(_) => {
             format!(in alloc; "these files are not those of the serve at port {port}")
         }
+        Alarm::NotShown(_) => {
+            format!(in alloc;
+                "serve at port {port} says that the last press was carried out, and the store does not show it"
+            )
+        }
         Alarm::RelayStopped(since) => stopped_words(alloc, since, at),
         Alarm::Unread(trouble) => String::from_str(alloc, trouble_words(trouble)),
         Alarm::Old(read) => old_words(alloc, read, at),

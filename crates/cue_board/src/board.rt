@@ -1,6 +1,6 @@
 //! The board: what an operator sees of a show. Lines of text that are made of one view and the names of a show file,
 //! and of nothing else.
-ghost use Rattle.std.specs.Prelude.{◌≡◌, ◌++◌, IfOk, OnOk, ℕ, map, string_bytes};
+ghost use Rattle.std.specs.Prelude.{◌≡◌, ◌++◌, [], ◌∷◌, IfOk, OnOk, Some, ℕ, codes, map, string_bytes};
 ghost use Rattle.cue_board.specs.Board as board;
 ghost use Rattle.cue_board.specs.Board.{Begin, said_of};
 ghost use Rattle.cue_board.specs.Columns.{AreFit};
@@ -12,6 +12,7 @@ use crate::line::{BoardLine, texts};
 use crate::live::push_live;
 use crate::names::Names;
 use crate::network::heard_lines;
+use crate::owed::{owed_at_most, push_owed};
 use crate::stack::{SHOWN, cues_within, push_stack};
 use crate::times::seconds;
 use cue_view::view::{Alarm, LiveAttempt, View};
@@ -39,7 +40,40 @@ fn loudest(view: &View) -> Option<Alarm>
         .find(|alarm| is_called(&view.live, *alarm))
 }
 
-// Puts the line of the loudest alarm after the lines, if there is one.
+// Puts the line of an alarm after the lines.
+fn push_called(
+    alloc: Global,
+    lines: &mut Vec<BoardLine>,
+    view: &View,
+    alarm: Alarm,
+    port: u16,
+) -> Result<(), AllocError>
+    ensures { OnOk result (map said_of lines.new.items
+        ≡ map said_of lines.old.items ++ ((codes "ALARM  " ++ board.words_of port view.now alarm) ∷ [])) }
+{
+    let words = words_of(alloc, view, alarm, port)?;
+    let words = words.as_str();
+    let said = format!(in alloc; "ALARM  {words}")?;
+    lines.push(BoardLine::bare(alloc, said))?;
+    Ok(())
+}
+
+// Puts the line of an alarm after the lines, and what moves once it is over.
+fn push_both(
+    alloc: Global,
+    lines: &mut Vec<BoardLine>,
+    view: &View,
+    alarm: Alarm,
+    port: u16,
+) -> Result<(), AllocError>
+    ensures { OnOk result
+        (map said_of lines.new.items ≡ map said_of lines.old.items ++ board.called port view.now (Some alarm)) }
+{
+    push_called(alloc, lines, view, alarm, port)?;
+    push_owed(alloc, lines, &alarm, &view.live)
+}
+
+// Puts the line of the loudest alarm after the lines, if there is one, and what moves once it is over.
 fn push_alarm(
     alloc: Global,
     lines: &mut Vec<BoardLine>,
@@ -50,10 +84,7 @@ fn push_alarm(
         (map said_of lines.new.items ≡ map said_of lines.old.items ++ board.alarm_said port view.now) }
 {
     if let Some(alarm) = loudest(view) {
-        let words = words_of(alloc, view, alarm, port)?;
-        let words = words.as_str();
-        let said = format!(in alloc; "ALARM  {words}")?;
-        lines.push(BoardLine::bare(alloc, said))?;
+        push_both(alloc, lines, view, alarm, port)?;
     }
     Ok(())
 }
@@ -135,9 +166,15 @@ fn lines_of(
 
 // How many cues are shown, if the network takes so many lines.
 fn cues_in(room: Option<usize>, view: &View, taken: usize) -> usize {
-    let alarm = if loudest(view).is_some() { 1 } else { 0 };
+    let alarms = match loudest(view) {
+        Some(alarm) => owed_at_most(&alarm, &view.live).saturating_add(1),
+        None => 0,
+    };
     match room {
-        Some(room) => cues_within(room.saturating_sub(taken).saturating_sub(alarm), &view.live),
+        Some(room) => cues_within(
+            room.saturating_sub(taken).saturating_sub(alarms),
+            &view.live,
+        ),
         None => SHOWN,
     }
 }

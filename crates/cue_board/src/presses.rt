@@ -36,6 +36,7 @@ fn plain_words(became: Became) -> &'static str
     match became {
         Became::Made => "made",
         Became::Known => "it was so already",
+        Became::Unshown => { "serve says that it was carried out; the store does not show it yet" }
         Became::Over => "it was made, and the cue stands by no more",
         Became::Carried => "no reply came; the store shows that it was carried out",
         Became::Lost => "no reply came; the store shows that it was not carried out",
@@ -66,5 +67,6 @@ pub fn unsent_words(unsent: Unsent) -> &'static str
         Unsent::Old => "not sent: what was shown is more than a second old; look, and press again",
         Unsent::Dark => "not sent: the button was not lit",
         Unsent::Changed => "not sent: it has changed meanwhile; look, and press again",
+        Unsent::Again => "GO was pressed less than a second ago: the second tap did nothing",
     }
 }

@@ -53,6 +53,11 @@ pub struct Hand<'a, R> {
     port: u16,
 }
 
+// Whether nobody knows yet what became of it: a word of the controller alone is not enough.
+fn is_open(became: Became) -> bool {
+    matches!(became, Became::Open | Became::Unshown)
+}
+
 impl<'a, R: Files<File = File> + Net + Clock + Eprint + AllocGlobal> Hand<'a, R> {
     /// A hand at this desk, over the controller at this port: it waits so many milliseconds until what it intends can
     /// be pressed, or not at all.
@@ -197,7 +202,7 @@ impl<'a, R: Files<File = File> + Net + Clock + Eprint + AllocGlobal> Hand<'a, R>
         for _ in 0..u64::MAX {
             let became = self.became(ask);
             let now = self.round()?;
-            if became != Became::Open || now > begun.saturating_add(PATIENCE) {
+            if !is_open(became) || now > begun.saturating_add(PATIENCE) {
                 return Ok(became);
             }
             self.rest()?;

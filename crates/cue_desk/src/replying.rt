@@ -1,7 +1,9 @@
 //! What the controller replies to the desk.
-ghost use Rattle.std.specs.Prelude.{◌≡◌, map};
+ghost use Rattle.std.specs.Prelude.{◌≡◌, IfOk, Ok, map};
 ghost use Rattle.cue_osc.specs.Argument.{arg_view};
-ghost use Rattle.cue_desk.specs.Replies.{reply_in, status_in};
+ghost use Rattle.cue_osc.specs.Content.{view};
+ghost use Rattle.cue_osc.specs.Reading.{datagram_at};
+ghost use Rattle.cue_desk.specs.Replies.{replied_by, replied_in, reply_in, status_in};
 
 use cue_osc::{Arg, Fault, Message, Packet, read};
 use cue_show::CueNo;
@@ -78,7 +80,10 @@ fn status_in(args: &[Arg<'_>]) -> Option<Replied>
     }
 }
 
-fn replied_in(asked: &[u8], message: &Message<'_>) -> Option<Replied> {
+// What a message says, by its address.
+fn replied_by(asked: &[u8], message: &Message<'_>) -> Option<Replied>
+    ensures { result ≡ replied_by asked.now message.now.address.now message.now.args }
+{
     let args = message.args.as_slice();
     if message.address == b"/reply".as_slice() {
         reply_in(asked, args)
@@ -89,16 +94,28 @@ fn replied_in(asked: &[u8], message: &Message<'_>) -> Option<Replied> {
     }
 }
 
+// What a packet says.
+fn said_by(asked: &[u8], packet: &Packet<'_>) -> Option<Replied>
+    ensures { result ≡ replied_in asked.now (Ok (view packet.now)) }
+{
+    match packet {
+        Packet::Message(message) => replied_by(asked, message),
+        Packet::Discarded { .. } | Packet::Bundle { .. } => None,
+    }
+}
+
 /// What a datagram of the controller says to who asked at this address. None if it is something else, as the reply
 /// to an earlier message. It fails only if memory ran out.
 pub fn read_reply(
     alloc: Global,
     asked: &[u8],
     datagram: &[u8],
-) -> Result<Option<Replied>, AllocError> {
+) -> Result<Option<Replied>, AllocError>
+    ensures { IfOk result (λ replied. replied ≡ replied_in asked.now (datagram_at datagram.now)) }
+{
     match read(alloc, datagram) {
-        Ok(Packet::Message(message)) => Ok(replied_in(asked, &message)),
+        Ok(packet) => Ok(said_by(asked, &packet)),
         Err(Fault::Memory) => Err(AllocError),
-        _ => Ok(None),
+        Err(_) => Ok(None),
     }
 }

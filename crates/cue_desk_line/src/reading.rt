@@ -1,8 +1,9 @@
 //! The command line, read over `clap`.
-ghost use Rattle.std.specs.Prelude.{IfOk, codes};
+ghost use Rattle.std.specs.Prelude.{◌≡◌, IfOk, IfSome, Some, codes};
 ghost use Rattle.cue_operator.specs.Methods.{cue_verb_text};
 ghost use Rattle.cue_desk.specs.Orders.{spelling_of, word_of};
-ghost use Rattle.cue_desk_line.specs.Orders.{IsAskedBy};
+ghost use Rattle.cue_desk_line.specs.Orders.{IsAskedBy, IsNamed, IsOfEvening, IsRemovedBy, IsSaidBy, cue_word};
+ghost use Rattle.cue_desk_line.specs.Orders.{device_by, device_word};
 
 mod arguments;
 pub mod buttons;
@@ -36,7 +37,9 @@ fn lacking(alloc: Global, id: &str) -> LineFault {
 }
 
 // What a word was read as; if it is nothing, `wanted` says what to write.
-fn or_unfit<T>(alloc: Global, read: Option<T>, word: &str, wanted: &str) -> Result<T, LineFault> {
+fn or_unfit<T>(alloc: Global, read: Option<T>, word: &str, wanted: &str) -> Result<T, LineFault>
+    ensures { IfOk result (λ value. read ≡ Some value) }
+{
     match read {
         Some(value) => Ok(value),
         None => Err(unfit(alloc, word, wanted)),
@@ -79,14 +82,18 @@ fn port_in(alloc: Global, found: &ArgMatches<'_>) -> Result<Option<u16>, LineFau
 }
 
 // The cue that a word names.
-fn cue_of(alloc: Global, text: &str) -> Result<CueNo, LineFault> {
+fn cue_of(alloc: Global, text: &str) -> Result<CueNo, LineFault>
+    ensures { IfOk result (λ cue. cue ≡ text.now) }
+{
     let wanted =
         "is no cue number: write digits with single points, as 12.5, 16 characters at most";
     or_unfit(alloc, CueNo::read(text.as_bytes()), text, wanted)
 }
 
 // The cue that stands there.
-fn cue_in(alloc: Global, found: &ArgMatches<'_>) -> Result<CueNo, LineFault> {
+fn cue_in(alloc: Global, found: &ArgMatches<'_>) -> Result<CueNo, LineFault>
+    ensures { IfOk result (λ cue. cue_word found.now ≡ Some cue) }
+{
     match found.get_str("CUE") {
         Some(text) => cue_of(alloc, text),
         None => Err(lacking(alloc, "CUE")),
@@ -94,7 +101,9 @@ fn cue_in(alloc: Global, found: &ArgMatches<'_>) -> Result<CueNo, LineFault> {
 }
 
 // The device with the number that a word is.
-fn device_of(text: &str) -> Option<DeviceNo> {
+fn device_of(text: &str) -> Option<DeviceNo>
+    ensures { IfSome result (λ device. device_by text.now ≡ Some device) }
+{
     match text.parse::<i32>() {
         Ok(number) => DeviceNo::of(number),
         Err(_) => None,
@@ -102,7 +111,9 @@ fn device_of(text: &str) -> Option<DeviceNo> {
 }
 
 // The device that stands there.
-fn device_in(alloc: Global, found: &ArgMatches<'_>) -> Result<DeviceNo, LineFault> {
+fn device_in(alloc: Global, found: &ArgMatches<'_>) -> Result<DeviceNo, LineFault>
+    ensures { IfOk result (λ device. device_word found.now ≡ Some device) }
+{
     match found.get_str("DEVICE") {
         Some(text) => or_unfit(
             alloc,
@@ -114,9 +125,9 @@ fn device_in(alloc: Global, found: &ArgMatches<'_>) -> Result<DeviceNo, LineFaul
     }
 }
 
-// The command that asks this, with the port and the name that stand there.
+// The command that asks this of what stands there, with the port and the name that stand there.
 fn ask_in(alloc: Global, order: DeskCommand, found: &ArgMatches<'_>) -> Result<Line, LineFault>
-    ensures { IfOk result (IsAskedBy (word_of order)) }
+    ensures { IsNamed found.now order → IfOk result (IsAskedBy (word_of order) found.now) }
 {
     Ok(Line::Ask {
         order,
@@ -127,7 +138,7 @@ fn ask_in(alloc: Global, order: DeskCommand, found: &ArgMatches<'_>) -> Result<L
 
 // What is asked of a cue.
 fn of_cue_in(alloc: Global, verb: CueVerb, found: &ArgMatches<'_>) -> Result<Line, LineFault>
-    ensures { IfOk result (IsAskedBy (cue_verb_text verb)) }
+    ensures { IfOk result (IsAskedBy (cue_verb_text verb) found.now) }
 {
     ask_in(
         alloc,
@@ -136,13 +147,24 @@ fn of_cue_in(alloc: Global, verb: CueVerb, found: &ArgMatches<'_>) -> Result<Lin
     )
 }
 
+// The command `remove device`.
+fn remove_device_in(alloc: Global, found: &ArgMatches<'_>) -> Result<Line, LineFault>
+    ensures { IfOk result (IsAskedBy (codes "remove") found.now) }
+{
+    ask_in(
+        alloc,
+        DeskCommand::RemoveDevice(device_in(alloc, found)?),
+        found,
+    )
+}
+
 // What is removed.
 fn remove_in(alloc: Global, found: &ArgMatches<'_>) -> Result<Line, LineFault>
-    ensures { IfOk result (IsAskedBy (codes "remove")) }
+    ensures { IfOk result (IsRemovedBy found.now) }
 {
     match found.subcommand() {
         Some((name, of)) if name == "cue" => of_cue_in(alloc, CueVerb::Remove, of),
-        Some((_, of)) => ask_in(alloc, DeskCommand::RemoveDevice(device_in(alloc, of)?), of),
+        Some((_, of)) => remove_device_in(alloc, of),
         None => Err(unfit(
             alloc,
             "remove",
@@ -250,17 +272,20 @@ fn board_in(alloc: Global, found: &ArgMatches<'_>) -> Result<Line, LineFault> {
     })
 }
 
+// The command `release`.
+fn release_in(alloc: Global, found: &ArgMatches<'_>) -> Result<Line, LineFault>
+    ensures { IfOk result (IsAskedBy (codes "release") found.now) }
+{
+    ask_in(alloc, DeskCommand::Release(device_in(alloc, found)?), found)
+}
+
 // A command that asks of the controller what this word says.
 fn asked_in(alloc: Global, word: CommandWord, found: &ArgMatches<'_>) -> Result<Line, LineFault>
-    ensures { IfOk result (IsAskedBy (spelling_of word)) }
+    ensures { IfOk result (IsSaidBy (spelling_of word) found.now) }
 {
     match word {
         CommandWord::OfCue(verb) => of_cue_in(alloc, verb, found),
-        CommandWord::Release => ask_in(
-            alloc,
-            DeskCommand::Release(device_in(alloc, found)?),
-            found,
-        ),
+        CommandWord::Release => release_in(alloc, found),
         CommandWord::Remove => remove_in(alloc, found),
         CommandWord::Status => ask_in(alloc, DeskCommand::Status, found),
     }
@@ -268,7 +293,7 @@ fn asked_in(alloc: Global, word: CommandWord, found: &ArgMatches<'_>) -> Result<
 
 // A command that asks of the controller what its word says.
 fn order_in(alloc: Global, name: &str, found: &ArgMatches<'_>) -> Result<Line, LineFault>
-    ensures { IfOk result (IsAskedBy name.now) }
+    ensures { IfOk result (IsSaidBy name.now found.now) }
 {
     match word_in(name) {
         Some(word) => asked_in(alloc, word, found),
@@ -282,7 +307,9 @@ fn pressed_or_asked(
     name: &str,
     found: &ArgMatches<'_>,
     environment: &Environment<'_>,
-) -> Result<Line, LineFault> {
+) -> Result<Line, LineFault>
+    ensures { IfOk result (IsOfEvening name.now found.now) }
+{
     match pressed_in(alloc, name, found, environment) {
         Some(line) => line,
         None => order_in(alloc, name, found),

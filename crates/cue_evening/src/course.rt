@@ -5,26 +5,9 @@ ghost use Rattle.cue_evening.specs.Ends.{end_of};
 use cue_core::limits::STANDBY_MS;
 use cue_core::{Event, State};
 use cue_exchange::{Answer, Attempt, Outcome, Reason, Stage};
+use cue_log_lines::listed::{Cause, Failure};
 use cue_show::{CueNo, DeviceNo};
 use std::alloc::{AllocError, Global};
-
-/// Why a device failed to carry its part out.
-#[derive(Clone, Copy)]
-pub enum Cause {
-    /// It aborted.
-    Aborted,
-    /// The operator waits no longer for it.
-    Released,
-    /// The log has not seen which.
-    Unseen,
-}
-
-/// A device that failed to carry its part out, and why.
-#[derive(Clone, Copy)]
-pub struct Failure {
-    pub device: DeviceNo,
-    pub cause: Cause,
-}
 
 /// An attempt that the log follows.
 #[derive(Drop)]

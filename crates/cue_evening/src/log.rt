@@ -1,32 +1,36 @@
 //! The log: what it writes at each look.
 ghost use Rattle.std.specs.Prelude.{◌≡◌, Some};
 
-use crate::course::{Cause, Course};
+use crate::course::Course;
 use crate::orders::order_line;
-use crate::page::Page;
-use crate::reasons::{cancel_line, device_of_cancel, end_line, recovered_line, standby_line};
+use crate::page::{Page, put_dated};
+use crate::reasons::{
+    cancel_line, device_of_cancel, end_line, failures_of, recovered_list, standby_line,
+};
 use crate::refusals::is_refusal;
-use crate::replies::{Answer, cause_in};
+use crate::replies::{Answer, cause_in, reply_line};
 use crate::sent::Sent;
 use crate::states::follow;
 use crate::time::Time;
 use crate::wire::LoggedWire;
 use cue_core::{Event, State};
 use cue_engine::{Account, Wire};
+use cue_log_lines::listed::Cause;
+use cue_log_lines::{Line, Text, write};
 use cue_run::Watch;
-use std::alloc::Global;
+use std::alloc::{AllocError, Global};
 use std::io::Eprint;
 use std::time::Clock;
 
 /// Says on standard error that a folder's show is ready at a port of this machine.
-pub fn say_ready<R: Clock + Eprint>(rt: &R, dir: &str, port: u16) {
-    let _ = match Time::now(rt) {
-        Some(time) => {
-            let date = time.date;
-            rt.eprintln(format_args!("{date} cuectl: ready, {dir} at 127.0.0.1:{port}"))
-        }
-        None => rt.eprintln(format_args!("cuectl: ready, {dir} at 127.0.0.1:{port}")),
+pub fn say_ready<R: Clock + Eprint>(rt: &R, alloc: Global, dir: &str, port: u16) {
+    let line = Line::Ready {
+        dir: Text::new(dir.as_bytes()),
+        port,
     };
+    if let (Some(time), Ok(line)) = (Time::now(rt), write(alloc, &line)) {
+        let _ = put_dated(rt, alloc, time, &line);
+    }
 }
 
 /// Writes the log of the evening. It reads the account of each input, and on a logged wire what left of it, and follows
@@ -69,17 +73,35 @@ impl<'a, R: Clock + Eprint> Teller<'a, R> {
     fn begin(&mut self, state: &State) {
         let live = state.live().as_slice();
         if !live.is_empty() {
-            self.page.write(recovered_line(self.alloc, live));
+            if let Ok(list) = recovered_list(self.alloc, live) {
+                self.page.write(&Line::Recovered(Text::new(&list)));
+            }
         }
         self.course.follow(state);
     }
 
-    // Writes the line of a reply, if there is something to say. A refusal may be counted in its place.
-    fn tell_reply(&mut self, answer: &Answer<'_>) {
+    // Writes the line of a reply. A refusal may be counted in its place.
+    fn put_reply(&mut self, answer: &Answer<'_>) -> Result<(), AllocError> {
+        let address = answer.address(self.alloc)?;
+        let more = answer.more(self.alloc)?;
+        let line = reply_line(
+            answer.reply,
+            answer.is_sent,
+            address.as_bytes(),
+            more.as_bytes(),
+        );
         if is_refusal(answer.reply.counts) {
-            self.page.refuse(answer.text(self.alloc));
-        } else if answer.is_told() {
-            self.page.write(answer.text(self.alloc));
+            self.page.refuse(&line);
+        } else {
+            self.page.write(&line);
+        }
+        Ok(())
+    }
+
+    // Writes the line of a reply, if there is something to say and memory for it.
+    fn tell_reply(&mut self, answer: &Answer<'_>) {
+        if answer.is_told() {
+            let _ = self.put_reply(answer);
         }
     }
 
@@ -115,8 +137,7 @@ impl<'a, R: Clock + Eprint> Teller<'a, R> {
             if let Some((seq, reason)) = self.course.take(event, cause) {
                 let cue = self.course.cue_of(seq);
                 let device = device_of_cancel(events, place);
-                self.page
-                    .write(cancel_line(self.alloc, seq, cue, reason, device));
+                self.page.write(&cancel_line(seq, cue, reason, device));
             }
         }
     }
@@ -127,7 +148,7 @@ impl<'a, R: Clock + Eprint> Teller<'a, R> {
             let is_first = order.is_new || self.last.is_none();
             if let (Some(is_sent), true) = (sent.take(0), is_first) {
                 let cue = self.course.cue_of(order.attempt);
-                self.page.write(order_line(self.alloc, order, cue, is_sent));
+                self.page.write(&order_line(order, cue, is_sent));
             }
         }
     }
@@ -136,8 +157,8 @@ impl<'a, R: Clock + Eprint> Teller<'a, R> {
     fn tell_alone(&mut self, state: &State) {
         if let Some(last) = self.last {
             for attempt in state.live().as_slice() {
-                if let Some(line) = standby_line(self.alloc, last, attempt) {
-                    self.page.write(Ok(line));
+                if let Some(line) = standby_line(last, attempt) {
+                    self.page.write(&line);
                 }
             }
         }
@@ -148,7 +169,9 @@ impl<'a, R: Clock + Eprint> Teller<'a, R> {
         let now = self.page.millis();
         for followed in self.course.as_slice() {
             if state.live().of_seq(followed.seq).is_none() {
-                self.page.write(end_line(self.alloc, followed, now));
+                if let Ok(failures) = failures_of(self.alloc, followed) {
+                    self.page.write(&end_line(followed, &failures, now));
+                }
             }
         }
         self.course.drop_ended(state);

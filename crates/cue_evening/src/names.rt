@@ -54,11 +54,3 @@ pub fn push_cues(text: &mut String, cues: &[CueNo]) -> Result<(), AllocError> {
     }
     push_rest(text, cues.len())
 }
-
-/// Writes the cue of an attempt, if it is known.
-pub fn push_cue_of(text: &mut String, cue: Option<CueNo>) -> Result<(), AllocError> {
-    if let Some(cue) = cue {
-        write!(text, " cue {}", cue.text().escape_ascii())?;
-    }
-    Ok(())
-}

@@ -3,6 +3,7 @@ use crate::counts::{counted_line, held_line};
 use crate::holding::held_up;
 use crate::refusals::{Counted, Refusals};
 use crate::time::Time;
+use cue_log_lines::{Line, write};
 use std::alloc::{AllocError, Global};
 use std::io::Eprint;
 use std::time::Clock;
@@ -38,7 +39,7 @@ impl<'a, R: Clock + Eprint> Page<'a, R> {
         self.tell_counted(due);
         if let (Some(before), Some(_)) = (before, self.time) {
             if let Some(millis) = held_up(before.millis, now) {
-                self.write(held_line(self.alloc, millis));
+                self.write(&held_line(millis));
             }
         }
     }
@@ -51,22 +52,23 @@ impl<'a, R: Clock + Eprint> Page<'a, R> {
         }
     }
 
-    /// Writes a line with date and time. If that fails, if the clock has no time, or if there was no memory
+    /// Writes a line with date and time. If that fails, if the clock has no time, or if there is no memory
     /// for the line, there is none.
-    pub fn write(&mut self, line: Result<String, AllocError>) {
+    pub fn write(&mut self, line: &Line<'_>) {
         let counted = self.refusals.take();
         self.tell_counted(counted);
-        self.put(line);
+        self.put(write(self.alloc, line));
     }
 
     /// Writes the line of a refusal, or counts it.
-    pub fn refuse(&mut self, line: Result<String, AllocError>) {
-        let Ok(line) = line else {
-            return;
-        };
+    pub fn refuse(&mut self, line: &Line<'_>) {
         let now = self.millis();
-        if let Ok(true) = self.refusals.hear(now, &line) {
-            self.write(Ok(line));
+        if let Ok(bytes) = write(self.alloc, line) {
+            if let Ok(text) = String::from_utf8_lossy(self.alloc, &bytes) {
+                if let Ok(true) = self.refusals.hear(now, &text) {
+                    self.write(line);
+                }
+            }
         }
     }
 
@@ -77,11 +79,21 @@ impl<'a, R: Clock + Eprint> Page<'a, R> {
         }
     }
 
-    fn put(&self, line: Result<String, AllocError>) {
+    fn put(&self, line: Result<Vec<u8>, AllocError>) {
         if let (Some(time), Ok(line)) = (self.time, line) {
-            let _ = self
-                .rt
-                .eprintln(format_args!("{} {}", time.date, line.as_str()));
+            let _ = put_dated(self.rt, self.alloc, time, &line);
         }
     }
+}
+
+/// Writes a line after its date.
+pub fn put_dated<R: Eprint>(
+    rt: &R,
+    alloc: Global,
+    time: Time,
+    line: &[u8],
+) -> Result<(), AllocError> {
+    let text = String::from_utf8_lossy(alloc, line)?;
+    let _ = rt.eprintln(format_args!("{} {}", time.date, text.as_str()));
+    Ok(())
 }

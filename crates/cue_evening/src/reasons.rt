@@ -1,42 +1,68 @@
 //! The lines of attempts: what was recovered, why a preparation was given up, and how an attempt ended.
-ghost use Rattle.std.specs.Prelude.{◌≡◌};
-ghost use Rattle.cue_evening.specs.AttemptWords.{cause_words};
+ghost use Rattle.std.specs.Prelude.{◌≡◌, IfOk, Some};
+ghost use Rattle.cue_log_lines.specs.Listed.{failures_text};
+ghost use Rattle.cue_evening.specs.LinesOf as lines;
 
 use crate::alone::named_device;
-use crate::course::{Cause, Failure, Followed};
-use crate::names::push_cue_of;
-use crate::time::push_seconds;
+use crate::course::Followed;
+use crate::time::span_of;
 use cue_core::Event;
-use cue_exchange::{Attempt, Reason};
+use cue_exchange::{Attempt, Reason, Stage};
+use cue_log_lines::listed::{Failure, Found, put_failure, put_found};
+use cue_log_lines::{Ended, Line, Text, Try, Why};
 use cue_show::{CueNo, DeviceNo};
-use cue_words::{outcome_words, reason_words, recovered_words};
 use std::alloc::{AllocError, Global};
-use std::fmt::Write;
 
-/// The line of the attempts that are live after a recovery.
-pub fn recovered_line(alloc: Global, live: &[Attempt]) -> Result<String, AllocError> {
-    let mut text = format!(in alloc; "recovered: ")?;
+// What a recovery found an attempt at.
+fn found_of(stage: Stage) -> Found
+    ensures { result ≡ lines.found_of stage }
+{
+    match stage {
+        Stage::Preparing => Found::Preparing,
+        Stage::Decided => Found::Given,
+        Stage::Cancelling(Reason::Power) => Found::Lost,
+        Stage::Cancelling(_) => Found::GivenUp,
+    }
+}
+
+/// The list of the attempts that are live after a recovery.
+pub fn recovered_list(alloc: Global, live: &[Attempt]) -> Result<Vec<u8>, AllocError> {
+    let mut list = Vec::new(alloc);
     for (place, attempt) in live.iter().enumerate() {
         if place > 0 {
-            text.push_str("; ")?;
+            list.extend_from_slice(b"; ")?;
         }
-        let cue = attempt.cue.text().escape_ascii();
-        let words = recovered_words(attempt.stage);
-        write!(text, "attempt {} cue {cue} {words}", attempt.seq)?;
+        put_found(&mut list, try_of(attempt), found_of(attempt.stage))?;
     }
-    Ok(text)
+    Ok(list)
+}
+
+// An attempt as a line names it.
+fn try_of(attempt: &Attempt) -> Try
+    ensures number { result.number ≡ attempt.now.seq }
+    ensures cue { result.cue ≡ Some attempt.now.cue }
+{
+    Try {
+        number: attempt.seq,
+        cue: Some(attempt.cue),
+    }
 }
 
 /// The line of an attempt that began after the last one that was seen, which has this number, and hangs on one device.
-/// None if it has no line, or there is no memory for it.
-pub fn standby_line(alloc: Global, last: u32, attempt: &Attempt) -> Option<String> {
-    let device = named_device(last, attempt)?.number();
-    let cue = attempt.cue.text().escape_ascii();
-    let number = attempt.seq;
-    let text = format!(in alloc;
-        "STANDBY attempt {number} cue {cue}: device {device} alone is required"
-    );
-    text.ok()
+/// None if it has no line.
+pub fn standby_line<'a>(last: u32, attempt: &Attempt) -> Option<Line<'a>>
+    ensures { result ≡ lines.standby_line last attempt.now }
+{
+    match named_device(last, attempt) {
+        Some(device) => Some(Line::Alone(
+            Try {
+                number: attempt.seq,
+                cue: Some(attempt.cue),
+            },
+            device,
+        )),
+        None => None,
+    }
 }
 
 // The device that is done with by an event, since it failed or has given up.
@@ -55,54 +81,62 @@ pub fn device_of_cancel(events: &[Event], place: usize) -> Option<DeviceNo> {
     device_of_end(events.get(place.saturating_add(1))?)
 }
 
+// Why a preparation was given up, by a device if it has one.
+fn why_of(reason: Reason, device: Option<DeviceNo>) -> Why
+    ensures { result ≡ lines.why_of reason device }
+{
+    match (reason, device) {
+        (Reason::Abort, Some(device)) => Why::Aborted(device),
+        (Reason::Release, Some(device)) => Why::Released(device),
+        (Reason::Abort | Reason::Release, None) => Why::Said(reason),
+        (Reason::Operator | Reason::Deadline | Reason::Power, _) => Why::Said(reason),
+    }
+}
+
 /// The line of an attempt that is given up for a reason, by a device if it has one.
-pub fn cancel_line(
-    alloc: Global,
+pub fn cancel_line<'a>(
     seq: u32,
     cue: Option<CueNo>,
     reason: Reason,
     device: Option<DeviceNo>,
-) -> Result<String, AllocError> {
-    let mut text = format!(in alloc; "CANCEL attempt {seq}")?;
-    push_cue_of(&mut text, cue)?;
-    text.push_str(": ")?;
-    match (reason, device) {
-        (Reason::Abort, Some(device)) => write!(text, "device {} aborted", device.number())?,
-        (Reason::Release, Some(device)) => write!(text, "device {} was released", device.number())?,
-        _ => text.push_str(reason_words(reason))?,
-    }
-    Ok(text)
-}
-
-// How a device failed.
-fn cause_words(cause: Cause) -> &'static str
-    ensures { result.now ≡ cause_words cause }
+) -> Line<'a>
+    ensures { result ≡ lines.cancel_line seq cue reason device }
 {
-    match cause {
-        Cause::Aborted => "aborted",
-        Cause::Released => "was released",
-        Cause::Unseen => "failed",
-    }
+    Line::GivenUp(Try { number: seq, cue }, why_of(reason, device))
 }
 
-fn push_failures(text: &mut String, failures: &[Failure]) -> Result<(), AllocError> {
+// Devices that failed, as the line of an end has them.
+fn failures_in(alloc: Global, failures: &[Failure]) -> Result<Vec<u8>, AllocError>
+    ensures { IfOk result (λ text. text.items ≡ failures_text failures.now) }
+{
+    let mut text = Vec::new(alloc);
     for failure in failures {
-        let words = cause_words(failure.cause);
-        write!(text, ", device {} {words}", failure.device.number())?;
+        put_failure(&mut text, failure)?;
     }
-    Ok(())
+    Ok(text)
 }
 
-/// The line of an attempt that has ended, at a time in milliseconds since 1970.
-pub fn end_line(alloc: Global, followed: &Followed, now: u64) -> Result<String, AllocError> {
-    let cue = followed.cue.text().escape_ascii();
-    let words = outcome_words(followed.outcome());
-    let mut text = format!(in alloc; "END attempt {} cue {cue}: {words}", followed.seq)?;
-    if followed.stage.is_decided() {
-        push_failures(&mut text, followed.failures.as_slice())?;
+/// The devices that the line of an end names: those that failed after the decision.
+pub fn failures_of(alloc: Global, followed: &Followed) -> Result<Vec<u8>, AllocError>
+    ensures { IfOk result (λ text. text.items ≡ lines.failures_of followed.now.stage followed.now.failures.items) }
+{
+    match followed.stage {
+        Stage::Preparing | Stage::Cancelling(_) => Ok(Vec::new(alloc)),
+        Stage::Decided => failures_in(alloc, followed.failures.as_slice()),
     }
-    text.push_str(", ")?;
-    push_seconds(&mut text, now.saturating_sub(followed.since))?;
-    text.push_str(" after standby")?;
-    Ok(text)
+}
+
+/// The line of an attempt that has ended, at a time in milliseconds since 1970, with the devices that it names.
+pub fn end_line<'a>(followed: &Followed, failures: &'a [u8], now: u64) -> Line<'a>
+    ensures { result ≡ lines.end_line followed.now failures.now now }
+{
+    Line::Ended(Ended {
+        attempt: Try {
+            number: followed.seq,
+            cue: Some(followed.cue),
+        },
+        outcome: followed.outcome(),
+        failures: Text::new(failures),
+        span: span_of(now.saturating_sub(followed.since)),
+    })
 }

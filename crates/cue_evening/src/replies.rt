@@ -1,19 +1,17 @@
 //! The lines of replies.
 ghost use Rattle.std.specs.Prelude.{◌≡◌, ◌≢◌, true, false};
+ghost use Rattle.cue_evening.specs.LinesOf as lines;
 
 use crate::busy::{held_device, waiting_devices};
-use crate::course::Cause;
 use crate::names::{push_cues, push_devices, push_numbers};
 use cue_core::{Code, Event, State};
 use cue_engine::{Reply, Taken};
 use cue_exchange::Attempt;
+use cue_log_lines::listed::Cause;
+use cue_log_lines::{Asked, Line, Refused, Text};
 use cue_show::{CueNo, DeviceNo, Parts};
-use cue_words::code_words;
 use std::alloc::{AllocError, Global};
 use std::fmt::Write;
-
-/// How many bytes a line has room for at first: few replies have a longer one.
-const LINE: usize = 160;
 
 // The text of an address, if none of its bytes is escaped in a line, as is known of most.
 fn plain_text(address: &[u8]) -> Option<&str> {
@@ -26,10 +24,64 @@ fn plain_text(address: &[u8]) -> Option<&str> {
 }
 
 // Whether an address speaks to many.
-fn is_wide(address: &[u8]) -> bool {
+fn is_wide(address: &[u8]) -> bool
+    ensures { result ≡ lines.is_wide address.now }
+{
     address
         .iter()
-        .any(|x| matches!(x, b'?' | b'*' | b'[' | b'{'))
+        .any(|x| *x == b'?' || *x == b'*' || *x == b'[' || *x == b'{')
+}
+
+// Whether something was refused, and the first with this code.
+fn is_refused(reply: &Reply, code: Code) -> bool
+    ensures { result ≡ lines.is_refused reply.now code }
+{
+    reply.counts.refused > 0 && reply.code == u16::from(code.number())
+}
+
+// Whether the address speaks to many, and what was not made of it is no refusal in words: nothing was stood by
+// there, or the arguments were those of another method.
+fn has_bystanders(reply: &Reply) -> bool
+    ensures { result ≡ lines.has_bystanders reply.now }
+{
+    let applies = reply.counts.made > 0 || reply.counts.known > 0;
+    let is_aside = is_refused(reply, Code::NotLive) || is_refused(reply, Code::Arguments);
+    applies && is_aside && is_wide(reply.address.as_slice())
+}
+
+// What a reply made nothing of.
+fn refused_of(reply: &Reply) -> Refused
+    ensures { result ≡ lines.refused_of reply.now }
+{
+    let count = reply.counts.refused;
+    if count == 0 {
+        Refused::Nothing
+    } else if has_bystanders(reply) {
+        Refused::Aside(count)
+    } else {
+        Refused::Some {
+            count,
+            code: reply.code,
+        }
+    }
+}
+
+/// The line of a reply, with these words for its address and for what is added.
+pub fn reply_line<'a>(reply: &Reply, is_sent: bool, address: &'a [u8], more: &'a [u8]) -> Line<'a>
+    ensures { result ≡ lines.reply_line reply.now is_sent address.now more.now }
+{
+    Line::Replied(
+        Asked {
+            port: reply.port,
+            address: Text::new(address),
+            made: reply.counts.made,
+            known: reply.counts.known,
+            refused: refused_of(reply),
+            more: Text::new(more),
+            is_sent,
+        },
+        None,
+    )
 }
 
 // The cue that an address names, and the method with its slash.
@@ -79,68 +131,20 @@ impl Answer<'_> {
         is_told(self.reply.counts, self.is_sent)
     }
 
-    /// The reply as its line says it.
-    pub fn text(&self, alloc: Global) -> Result<String, AllocError> {
-        let mut text = String::with_capacity(alloc, LINE)?;
-        write!(text, "{} asked ", self.reply.port)?;
-        self.push_address(&mut text)?;
-        self.push_counts(&mut text)?;
-        let more = self.more(alloc)?;
-        if !more.is_empty() {
-            write!(text, ": {}", more.as_str())?;
-        }
-        if !self.is_sent {
-            text.push_str(", the reply was not sent")?;
+    /// The address as its line has it.
+    pub fn address(&self, alloc: Global) -> Result<String, AllocError> {
+        let mut text = String::new(alloc);
+        let address = self.reply.address.as_slice();
+        match plain_text(address) {
+            Some("") => text.push_str("-")?,
+            Some(plain) => text.push_str(plain)?,
+            None => write!(text, "{}", address.escape_ascii())?,
         }
         Ok(text)
     }
 
-    fn push_address(&self, text: &mut String) -> Result<(), AllocError> {
-        let address = self.reply.address.as_slice();
-        match plain_text(address) {
-            Some("") => text.push_str("-"),
-            Some(plain) => text.push_str(plain),
-            None => write!(text, "{}", address.escape_ascii()),
-        }
-    }
-
-    // Whether the first command that was refused has this code.
-    fn is_refused(&self, code: Code) -> bool {
-        self.reply.counts.refused > 0 && self.reply.code == u16::from(code.number())
-    }
-
-    // Whether the address speaks to many, and what was not made of it is no refusal in words: nothing was stood by
-    // there, or the arguments were those of another method.
-    fn has_bystanders(&self) -> bool {
-        let applies = self.reply.counts.made > 0 || self.reply.counts.known > 0;
-        let is_aside = self.is_refused(Code::NotLive) || self.is_refused(Code::Arguments);
-        applies && is_aside && is_wide(self.reply.address.as_slice())
-    }
-
-    fn push_counts(&self, text: &mut String) -> Result<(), AllocError> {
-        let counts = self.reply.counts;
-        write!(text, ": made {} known {}", counts.made, counts.known)?;
-        if counts.refused == 1 && self.has_bystanders() {
-            text.push_str(", 1 other did not apply")?;
-        } else if counts.refused > 0 && self.has_bystanders() {
-            write!(text, ", {} others did not apply", counts.refused)?;
-        } else {
-            write!(text, " refused {}", counts.refused)?;
-            self.push_code(text)?;
-        }
-        Ok(())
-    }
-
-    fn push_code(&self, text: &mut String) -> Result<(), AllocError> {
-        let code = self.reply.code;
-        if self.reply.counts.refused > 0 {
-            write!(text, ", code {code}, {}", code_words(i32::from(code)))?;
-        }
-        Ok(())
-    }
-
-    // What was made of the show, or who keeps the command from being made; empty if neither is known.
-    fn more(&self, alloc: Global) -> Result<String, AllocError> {
+    /// What was made of the show, or who keeps the command from being made; empty if neither is known.
+    pub fn more(&self, alloc: Global) -> Result<String, AllocError> {
         let mut more = String::new(alloc);
         self.push_why(alloc, &mut more)?;
         self.push_made(alloc, &mut more)?;
@@ -154,8 +158,8 @@ impl Answer<'_> {
         let (Some(state), Some((cue, method))) = named else {
             return Ok(());
         };
-        let is_late = self.is_refused(Code::NotReady) && method == b"/go".as_slice();
-        let is_busy = self.is_refused(Code::Busy)
+        let is_late = is_refused(self.reply, Code::NotReady) && method == b"/go".as_slice();
+        let is_busy = is_refused(self.reply, Code::Busy)
             && (method == b"/standby".as_slice() || method == b"/remove".as_slice());
         match state.live().of_cue(cue) {
             Some(attempt) if is_late => push_waiting(alloc, more, attempt),

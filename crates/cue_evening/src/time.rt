@@ -1,7 +1,9 @@
 //! A time of the machine's clock, as the log says it.
+ghost use Rattle.std.specs.Prelude.{◌≡◌};
+ghost use Rattle.cue_evening.specs.LinesOf.{span_of};
+
+use cue_log_lines::Span;
 use jiff::Timestamp;
-use std::alloc::AllocError;
-use std::fmt::Write;
 use std::time::Clock;
 
 /// A time of the machine's clock.
@@ -23,9 +25,12 @@ impl Time {
     }
 }
 
-/// Writes a time of so many milliseconds in seconds and tenths, as `5.1 s`.
-pub fn push_seconds(text: &mut String, millis: u64) -> Result<(), AllocError> {
-    let tenths = millis % 1000 / 100;
-    write!(text, "{}.{tenths} s", millis / 1000)?;
-    Ok(())
+/// A time of so many milliseconds, in seconds and tenths.
+pub fn span_of(millis: u64) -> Span
+    ensures { result ≡ span_of millis }
+{
+    Span {
+        seconds: millis / 1000,
+        tenths: millis % 1000 / 100,
+    }
 }

@@ -7,18 +7,20 @@ use cue_desk::ending::Ending;
 use cue_disk::{FileDisk, MemDisk};
 use cue_keeper::Keeper;
 use cue_rehearsal_run::{PlanPlace, knows_plan, plan_of};
-use cue_saying::{print, say};
+use cue_saying::{Shown, print, say};
 use cue_show::Show;
 use cue_show_file::{
-    Draft, Finding, Review, ShowFile, check, condensed, of_show, read, review_of, written,
+    Draft, Finding, Review, ShowFile, by_line, check, condensed, of_show, read, review_of, written,
 };
-use std::alloc::Global;
+use cue_words::shown_text;
+use std::alloc::{AllocError, Global};
 use std::fs::{self, File, Files};
 use std::io::{self, Eprint, ErrorKind, Write};
 use toml::Table;
 
 // Says why a show file was not read.
 fn say_unread<R: Eprint>(rt: &R, path: &str, why: &io::Error) {
+    let path = Shown { text: path };
     match why.kind() {
         ErrorKind::InvalidData => say(
             rt,
@@ -121,6 +123,7 @@ pub fn read_file<R: Files<File = File> + Eprint + AllocGlobal>(
 
 // Says each mistake.
 fn say_findings<R: Eprint>(rt: &R, path: &str, findings: &[Finding]) {
+    let path = Shown { text: path };
     for finding in findings {
         let _ = rt.eprintln(format_args!("{path}:{finding}"));
     }
@@ -128,6 +131,7 @@ fn say_findings<R: Eprint>(rt: &R, path: &str, findings: &[Finding]) {
 
 // Says each hint.
 fn say_hints<R: Eprint>(rt: &R, path: &str, hints: &[Finding]) {
+    let path = Shown { text: path };
     for hint in hints {
         let (subject, mistake) = (hint.subject, &hint.mistake);
         let _ = match hint.line {
@@ -137,19 +141,34 @@ fn say_hints<R: Eprint>(rt: &R, path: &str, hints: &[Finding]) {
     }
 }
 
-// Says what an evening would not take of a file, and what it may not; whether there is a mistake.
-fn say_review<R: Eprint + AllocGlobal>(
+// All mistakes by their lines: those of a file, and what an evening would not take of it. A file of which nothing could
+// be read is not empty.
+fn all_mistakes(
+    told: Vec<Finding>,
+    reviewed: Vec<Finding>,
+    has_device: bool,
+) -> Result<Vec<Finding>, AllocError> {
+    let mut all = told;
+    if all.is_empty() || has_device {
+        for mistake in reviewed {
+            all.push(mistake)?;
+        }
+    }
+    by_line(all)
+}
+
+// Says what is wrong with a file, and what may be; whether there is a mistake.
+fn say_all<R: Eprint + AllocGlobal>(
     rt: &R,
     path: &str,
-    looked: &Looked,
+    file: &ShowFile,
+    told: Vec<Finding>,
 ) -> Result<bool, Ending> {
-    let Review { mistakes, hints } = review_of(rt.alloc(), &looked.file)?;
-    // A file of which nothing could be read is not empty.
-    if looked.told.is_empty() || !looked.file.devices.is_empty() {
-        say_findings(rt, path, &mistakes);
-    }
+    let Review { mistakes, hints } = review_of(rt.alloc(), file)?;
+    let all = all_mistakes(told, mistakes, !file.devices.is_empty())?;
+    say_findings(rt, path, &all);
     say_hints(rt, path, &hints);
-    Ok(!mistakes.is_empty())
+    Ok(!all.is_empty())
 }
 
 /// The command `check`. A mistake ends it with status 1, a hint does not.
@@ -158,24 +177,30 @@ pub fn check_file<R: Files<File = File> + Eprint + AllocGlobal, W: Write>(
     path: &str,
     writer: &mut W,
 ) -> Result<(), Ending> {
-    let looked = look_at(rt, path)?;
-    say_findings(rt, path, &looked.told);
-    let spoils = say_review(rt, path, &looked)?;
+    let Looked {
+        file,
+        table,
+        rehearse,
+        told,
+        ..
+    } = look_at(rt, path)?;
+    let is_wrong = say_all(rt, path, &file, told)?;
+    let shown = shown_text(rt.alloc(), path)?;
     let at = PlanPlace {
-        path,
-        line: looked.rehearse,
+        path: shown.as_str(),
+        line: rehearse,
     };
-    let plan = plan_of(rt, at, &looked.table)?;
-    knows_plan(rt, Some(at), &looked.file, &plan)?;
-    if spoils || !looked.told.is_empty() {
+    let plan = plan_of(rt, at, &table)?;
+    knows_plan(rt, Some(at), &file, &plan)?;
+    if is_wrong {
         return Err(Ending::Refused);
     }
     let devices = Count {
-        count: looked.file.devices.len(),
+        count: file.devices.len(),
         what: "device",
     };
     let cues = Count {
-        count: looked.file.cues.len(),
+        count: file.cues.len(),
         what: "cue",
     };
     let text = format!(in rt.alloc(); "no mistake: {devices}, {cues}\n")?;
@@ -193,9 +218,20 @@ fn open_one<R: Files<File = File> + AllocGlobal>(
     FileDisk::open_to_read(rt, path.as_str()).map_err(|why| words(alloc, path.as_str(), why))
 }
 
-/// What failed, and why, as one text; empty if there is no memory for it.
+// A text as a terminal may get it; empty if there is no memory for it.
+fn safe(alloc: Global, text: &str) -> String {
+    match shown_text(alloc, text) {
+        Ok(shown) => shown,
+        Err(_) => String::new(alloc),
+    }
+}
+
+/// What failed, and why, as one text that a terminal may get; empty if there is no memory for it.
 pub fn words<D: std::fmt::Display + Drop>(alloc: Global, what: &str, why: D) -> String {
-    format!(in alloc; "{what}: {why}").unwrap_or(String::new(alloc))
+    match format!(in alloc; "{what}: {why}") {
+        Ok(text) => safe(alloc, text.as_str()),
+        Err(_) => String::new(alloc),
+    }
 }
 
 /// Opens the store of a folder in memory. Nothing is written to its files, and no sync or lock is asked of them. The

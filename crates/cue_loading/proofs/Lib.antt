@@ -1,1 +1,3 @@
 mod StackLemmas
+mod DifferenceLemmas
+mod StepLemmas

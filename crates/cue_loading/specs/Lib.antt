@@ -1,3 +1,4 @@
 pub mod Stacks
 pub mod Steps
 pub mod Loaded
+pub mod Differences

@@ -1,7 +1,10 @@
 -- What a controller with a show makes of the steps of a plan.
-use Rattle.std.specs.Prelude.{Bool, if◌then◌else◌, List, [], ◌∷◌, Option, None, Some, option_and_then}
+use Rattle.std.specs.Prelude.{Bool, true, if◌then◌else◌, List, [], ◌∷◌, ◌++◌, Option, None, Some, option_and_then}
+use Rattle.std.specs.Prelude.{IsTrue, is_some}
 use Rattle.cue_show.specs.Show.{ShowLists, can_add_cue, can_add_device, can_remove_device, has_cue}
 use Rattle.cue_show.specs.Show.{with_cue, with_device, with_place, without_cue, without_device}
+use Rattle.cue_loading.specs.declared.manner.Manner.{Manner}
+use Rattle.cue_loading.specs.declared.manner.Manner.TheVariants as manner
 use Rattle.cue_loading.specs.declared.step.Step.{Step}
 use Rattle.cue_loading.specs.declared.step.Step.TheVariants as step
 
@@ -21,3 +24,15 @@ after_step s (step.MovePlace c) = if_taken (has_cue s c) (with_place s (Some c))
 abbrev pub after_steps : ShowLists → List Step → Option ShowLists
 after_steps s [] = Some s
 after_steps s (x ∷ xs) = option_and_then (λ t. after_steps t xs) (after_step s x)
+
+-- Where a whole plan is taken, each beginning of it is.
+abbrev pub EachIsTaken : Type 0
+EachIsTaken =
+    (s : ShowLists) (before after : List Step) → IsTrue (is_some (after_steps s (before ++ after)))
+    → IsTrue (is_some (after_steps s before))
+
+-- a load that only adds goes on in any case; one that takes something out only if what was there is kept
+abbrev pub goes_on : Manner → Bool → Bool
+goes_on manner.Adds kept = true
+goes_on manner.Replaces kept = kept
+goes_on manner.IsExact kept = kept

@@ -1,6 +1,8 @@
 //! What differs between a show file and a store.
-ghost use Rattle.std.specs.Prelude.{◌≡◌, ◌==◌, IfOk, false, length};
+ghost use Rattle.std.specs.Prelude.{◌≡◌, ◌==◌, IfOk, IsTrue, OnOk, false, length};
 ghost use Rattle.cue_loading.specs.Loaded.{is_same};
+ghost use Rattle.cue_loading.specs.Differences.{are_so, has_other_parts, has_other_port, is_in_both, is_left_cue};
+ghost use Rattle.cue_loading.specs.Differences.{is_left_device, is_so};
 
 use crate::entries::{cues_of, same_cues};
 use crate::planning::{has_devices_of, has_no_other};
@@ -37,14 +39,92 @@ fn is_same(alloc: Global, file: &Show, stored: &Show) -> Result<bool, AllocError
     Ok(cues && devices && has_no_other(file, stored))
 }
 
-// The devices of the file that the store does not have, or has at another port.
-fn note_devices(found: &mut Vec<Difference>, file: &Show, stored: &Show) -> Result<(), AllocError> {
-    for (device, port) in file.devices() {
-        match stored.port(*device) {
-            None => found.push(Difference::MissingDevice(*device))?,
-            Some(other) if other != *port => found.push(Difference::OtherPort(*device, other))?,
-            Some(_) => {}
+// Whether the two differ so.
+#[tactic(auto, unfolding(crate::specs::Differences::is_so))]
+fn is_so(file: &Show, stored: &Show, difference: &Difference) -> bool
+    ensures { result ≡ is_so file.now stored.now difference.now }
+{
+    match difference {
+        Difference::LeftDevice(device) => is_left_device(file, stored, *device),
+        Difference::LeftCue(cue) => is_left_cue(file, stored, *cue),
+        Difference::MissingDevice(device) => is_left_device(stored, file, *device),
+        Difference::MissingCue(cue) => is_left_cue(stored, file, *cue),
+        Difference::OtherPort(device, port) => has_other_port(file, stored, *device, *port),
+        Difference::OtherParts(cue) => has_other_parts(file, stored, *cue),
+        Difference::OtherOrder(cue, other) => {
+            is_in_both(file, stored, *cue) && is_in_both(file, stored, *other) && *cue != *other
         }
+        Difference::Otherwise => true,
+    }
+}
+
+// Whether the store has a device that the file does not have.
+fn is_left_device(file: &Show, stored: &Show, device: DeviceNo) -> bool
+    ensures { result ≡ is_left_device file.now stored.now device }
+{
+    stored.has_device(device) && !file.has_device(device)
+}
+
+// Whether the store has a cue that the file does not have.
+fn is_left_cue(file: &Show, stored: &Show, cue: CueNo) -> bool
+    ensures { result ≡ is_left_cue file.now stored.now cue }
+{
+    stored.has_cue(cue) && !file.has_cue(cue)
+}
+
+// Whether both have the cue.
+fn is_in_both(file: &Show, stored: &Show, cue: CueNo) -> bool
+    ensures { result ≡ is_in_both file.now stored.now cue }
+{
+    stored.has_cue(cue) && file.has_cue(cue)
+}
+
+// Whether the store has the device at this port, and the file at another one.
+fn has_other_port(file: &Show, stored: &Show, device: DeviceNo, port: u16) -> bool
+    ensures { result ≡ has_other_port file.now stored.now device port }
+{
+    match (file.port(device), stored.port(device)) {
+        (Some(wanted), Some(there)) => there == port && wanted != port,
+        _ => false,
+    }
+}
+
+// Whether the cue has other parts in the store than in the file.
+fn has_other_parts(file: &Show, stored: &Show, cue: CueNo) -> bool
+    ensures { result ≡ has_other_parts file.now stored.now cue }
+{
+    match (file.parts(cue), stored.parts(cue)) {
+        (Some(wanted), Some(there)) => *there != *wanted,
+        _ => false,
+    }
+}
+
+// Puts a difference after the others, if the two differ so.
+#[tactic(auto, using(crate::proofs::DifferenceLemmas::so_push))]
+fn note(
+    found: &mut Vec<Difference>,
+    file: &Show,
+    stored: &Show,
+    difference: Difference,
+) -> Result<(), AllocError>
+    ensures { OnOk result (are_so file.now stored.now found.new.items ≡ are_so file.now stored.now found.old.items) }
+{
+    if is_so(file, stored, &difference) {
+        found.push(difference)?;
+    }
+    Ok(())
+}
+
+// The devices of the file that the store does not have, or has at another port.
+fn note_devices(found: &mut Vec<Difference>, file: &Show, stored: &Show) -> Result<(), AllocError>
+    ensures { OnOk result (are_so file.now stored.now found.new.items ≡ are_so file.now stored.now found.old.items) }
+{
+    for (device, _) in file.devices() {
+        let difference = match stored.port(*device) {
+            None => Difference::MissingDevice(*device),
+            Some(other) => Difference::OtherPort(*device, other),
+        };
+        note(found, file, stored, difference)?;
     }
     Ok(())
 }
@@ -54,37 +134,36 @@ fn note_left_devices(
     found: &mut Vec<Difference>,
     file: &Show,
     stored: &Show,
-) -> Result<(), AllocError> {
+) -> Result<(), AllocError>
+    ensures { OnOk result (are_so file.now stored.now found.new.items ≡ are_so file.now stored.now found.old.items) }
+{
     for (device, _) in stored.devices() {
-        if !file.has_device(*device) {
-            found.push(Difference::LeftDevice(*device))?;
-        }
+        note(found, file, stored, Difference::LeftDevice(*device))?;
     }
     Ok(())
 }
 
 // The cues of the file that the store does not have, or has with other parts.
-fn note_cues(found: &mut Vec<Difference>, file: &Show, stored: &Show) -> Result<(), AllocError> {
-    for (cue, parts) in file.cues() {
-        match stored.parts(*cue) {
-            None => found.push(Difference::MissingCue(*cue))?,
-            Some(others) if *others != *parts => found.push(Difference::OtherParts(*cue))?,
-            Some(_) => {}
-        }
+fn note_cues(found: &mut Vec<Difference>, file: &Show, stored: &Show) -> Result<(), AllocError>
+    ensures { OnOk result (are_so file.now stored.now found.new.items ≡ are_so file.now stored.now found.old.items) }
+{
+    for (cue, _) in file.cues() {
+        let difference = if stored.has_cue(*cue) {
+            Difference::OtherParts(*cue)
+        } else {
+            Difference::MissingCue(*cue)
+        };
+        note(found, file, stored, difference)?;
     }
     Ok(())
 }
 
 // The cues that the file does not have.
-fn note_left_cues(
-    found: &mut Vec<Difference>,
-    file: &Show,
-    stored: &Show,
-) -> Result<(), AllocError> {
+fn note_left_cues(found: &mut Vec<Difference>, file: &Show, stored: &Show) -> Result<(), AllocError>
+    ensures { OnOk result (are_so file.now stored.now found.new.items ≡ are_so file.now stored.now found.old.items) }
+{
     for (cue, _) in stored.cues() {
-        if !file.has_cue(*cue) {
-            found.push(Difference::LeftCue(*cue))?;
-        }
+        note(found, file, stored, Difference::LeftCue(*cue))?;
     }
     Ok(())
 }
@@ -117,21 +196,25 @@ fn other_order(
 }
 
 // All that differs.
-fn noted(alloc: Global, file: &Show, stored: &Show) -> Result<Vec<Difference>, AllocError> {
+fn noted(alloc: Global, file: &Show, stored: &Show) -> Result<Vec<Difference>, AllocError>
+    ensures { IfOk result (λ found. IsTrue (are_so file.now stored.now found.items)) }
+{
     let mut found = Vec::new(alloc);
     note_devices(&mut found, file, stored)?;
     note_cues(&mut found, file, stored)?;
     note_left_devices(&mut found, file, stored)?;
     note_left_cues(&mut found, file, stored)?;
     if let Some(order) = other_order(alloc, file, stored)? {
-        found.push(order)?;
+        note(&mut found, file, stored, order)?;
     }
     Ok(found)
 }
 
 // What was found of two that differ: something at least.
-fn at_least_one(found: &mut Vec<Difference>) -> Result<(), AllocError>
-    ensures { IfOk result (λ _. (length found.new.items == 0) ≡ false) }
+#[tactic(auto, using(crate::proofs::DifferenceLemmas::otherwise_push))]
+fn at_least_one(found: &mut Vec<Difference>, file: &Show, stored: &Show) -> Result<(), AllocError>
+    ensures some { IfOk result (λ _. (length found.new.items == 0) ≡ false) }
+    ensures so { OnOk result (are_so file.now stored.now found.new.items ≡ are_so file.now stored.now found.old.items) }
 {
     if found.is_empty() {
         found.push(Difference::Otherwise)?;
@@ -140,14 +223,16 @@ fn at_least_one(found: &mut Vec<Difference>) -> Result<(), AllocError>
 }
 
 /// All in which the store is not what the file says: devices, then cues, then the order. There is none exactly if it
-/// has the devices of the file with their ports, and no other one, and its stack is that of the file.
+/// has the devices of the file with their ports, and no other one, and its stack is that of the file. The two differ in
+/// each that is named.
 pub fn differences(alloc: Global, file: &Show, stored: &Show) -> Result<Vec<Difference>, AllocError>
-    ensures { IfOk result (λ found. (length found.items == 0) ≡ is_same file.now stored.now) }
+    ensures none { IfOk result (λ found. (length found.items == 0) ≡ is_same file.now stored.now) }
+    ensures so { IfOk result (λ found. IsTrue (are_so file.now stored.now found.items)) }
 {
     if is_same(alloc, file, stored)? {
         return Ok(Vec::new(alloc));
     }
     let mut found = noted(alloc, file, stored)?;
-    at_least_one(&mut found)?;
+    at_least_one(&mut found, file, stored)?;
     Ok(found)
 }

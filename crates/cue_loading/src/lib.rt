@@ -16,11 +16,12 @@
 //! - What the file does not have stays, and is named, until somebody says `--exact`: a cue may have been put there by
 //!   hand.
 //!
-//! Only tested: how many steps a plan has, which differences are named, and for which cues to wait.
+//! Only tested: how many steps a plan has, that each difference is named, and for which cues to wait.
 #![tactic(auto)]
 
 mod comparing;
 mod entries;
+pub mod laws;
 mod manner;
 mod planning;
 mod step;

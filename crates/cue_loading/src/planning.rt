@@ -1,5 +1,5 @@
 //! The plan of a loading.
-ghost use Rattle.std.specs.Prelude.{◌≡◌, IfOk, IfSome};
+ghost use Rattle.std.specs.Prelude.{◌≡◌, [], IfOk, IfSome, IsSomeAnd, IsTrue};
 ghost use Rattle.std.specs.List.{list_all};
 ghost use Rattle.cue_loading.specs.Loaded.{
   has_devices_of,
@@ -148,15 +148,21 @@ fn tried(
 /// differs from it and the stack has its order. What the file does not have stays after the cue that it stands after,
 /// or at the front; if it is to be exact, it is removed. None if the stack would have more cues than it can have.
 ///
-/// The controller takes each step, as long as nothing of the show is live and nobody else changes it.
+/// The controller takes each step, as long as nothing of the show is live and nobody else changes it. If the store is
+/// what it is to be, nothing is asked.
 pub fn plan(
     alloc: Global,
     is_exact: bool,
     file: &Show,
     stored: &Show,
 ) -> Result<Option<Vec<Step>>, AllocError>
-    ensures { IfOk result (λ plan. IfSome plan (λ steps. Loads is_exact file.now stored.now steps.items)) }
+    ensures loads { IfOk result (λ plan. IfSome plan (λ steps. Loads is_exact file.now stored.now steps.items)) }
+    ensures loaded { IsTrue (is_loaded is_exact file.now stored.now stored.now)
+        → IfOk result (λ plan. IsSomeAnd plan (λ steps. steps.items ≡ [])) }
 {
+    if is_loaded(alloc, is_exact, file, stored, stored)? {
+        return Ok(Some(Vec::new(alloc)));
+    }
     let steps = steps_to(alloc, is_exact, file, stored)?;
     tried(alloc, is_exact, file, stored, steps)
 }

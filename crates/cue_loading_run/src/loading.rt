@@ -18,6 +18,7 @@ use cue_desk::ending::Ending;
 use cue_desk::ports::controller_port;
 use cue_files_run::{Sound, read_sound};
 use cue_loading::Manner;
+use cue_saying::Shown;
 use cue_show::Show;
 use cue_show_file::{ShowFile, Subject};
 use progress::Progress;
@@ -84,6 +85,7 @@ impl<'a, R: Net + Eprint + AllocGlobal, W: Write> Loading<'a, R, W> {
 
     // Says that the store was not compared with the file, and how it is.
     fn tell_uncompared(&mut self, path: &str) -> Result<(), Ending> {
+        let path = Shown { text: path };
         self.progress.print(format!(in self.asker.alloc();
             "not compared with what else the store has, nor with its order: \
              cuedesk load {path} FOLDER does, with its folder\n"

@@ -10,6 +10,7 @@ abbrev pub kind_of : Alarm → List ℕ
 kind_of alarm.NobodyListens = codes "silent"
 kind_of (alarm.Silent asked) = codes "silent"
 kind_of (alarm.OtherStore since) = codes "other"
+kind_of (alarm.NotShown since) = codes "unshown"
 kind_of (alarm.RelayStopped since) = codes "relay"
 kind_of (alarm.Unread why) = codes "old"
 kind_of (alarm.Old read) = codes "old"

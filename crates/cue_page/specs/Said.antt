@@ -5,15 +5,17 @@ use Rattle.cue_view.specs.declared.view.Became.{Became}
 use Rattle.cue_view.specs.declared.view.Became.TheVariants as became
 use Rattle.cue_view.specs.declared.view.Said.{Said}
 use Rattle.cue_view.specs.declared.view.Unsent.{Unsent}
+use Rattle.cue_view.specs.declared.view.Unsent.TheVariants as unsent
 use Rattle.cue_board.specs.Presses.{became_words, unsent_words}
 use Rattle.cue_request.specs.Presses.{press_of}
 
--- whether it is open, done, or not
+-- whether it is open, said by the controller alone, done, or not
 abbrev pub kind_of : Became → List ℕ
 kind_of became.Open = codes "open"
 kind_of became.Made = codes "made"
 kind_of became.Known = codes "made"
 kind_of became.Carried = codes "made"
+kind_of became.Unshown = codes "said"
 kind_of became.Over = codes "over"
 kind_of _ = codes "refused"
 
@@ -29,6 +31,12 @@ abbrev pub said_data : ℕ → Option Said → Data
 said_data port None = null
 said_data port (Some s) = press_data port s
 
+-- whether the press was refused, or was one press with the GO before it
+abbrev pub unsent_kind : Unsent → List ℕ
+unsent_kind unsent.Again = codes "again"
+unsent_kind _ = codes "refused"
+
 abbrev pub unsent_data : Option Unsent → Data
 unsent_data None = null
-unsent_data (Some u) = string (unsent_words u)
+unsent_data (Some u) =
+    object (member (codes "kind") (string (unsent_kind u)) (member (codes "words") (string (unsent_words u)) no_members))

@@ -5,8 +5,10 @@ mod drawing;
 mod elements;
 mod finding;
 mod great;
+mod lines;
 mod live;
 mod locking;
+mod moving;
 mod pressing;
 mod settings;
 mod small;
@@ -15,6 +17,7 @@ mod stack;
 mod style;
 mod themes;
 mod times;
+mod windows;
 
 use alarms::ALARMS;
 use base64::engine::general_purpose::STANDARD;
@@ -23,8 +26,10 @@ use drawing::DRAWING;
 use elements::ELEMENTS;
 use finding::FINDING;
 use great::GREAT;
+use lines::LINES;
 use live::LIVE;
 use locking::LOCKING;
+use moving::MOVING;
 use pressing::PRESSING;
 use settings::SETTINGS;
 use sha2::{Digest, Sha256};
@@ -35,14 +40,15 @@ use std::alloc::{AllocError, Global};
 use style::STYLE;
 use themes::THEMES;
 use times::TIMES;
+use windows::WINDOWS;
 
 /// The styles, in order: a later one has the last word.
 const STYLES: [&str; 4] = [THEMES, STYLE, CONTROLS, SMALL];
 
 /// The scripts, in order: what one does at once stands in those before it.
-const SCRIPTS: [&str; 12] = [
-    ELEMENTS, STACK, FINDING, LIVE, TIMES, ALARMS, GREAT, SETTINGS, SOUNDING, LOCKING, DRAWING,
-    PRESSING,
+const SCRIPTS: [&str; 15] = [
+    ELEMENTS, WINDOWS, STACK, FINDING, LIVE, MOVING, TIMES, ALARMS, GREAT, LINES, SETTINGS,
+    SOUNDING, LOCKING, DRAWING, PRESSING,
 ];
 
 /// What stands before the styles.
@@ -73,7 +79,7 @@ const BODY: &str = r#"">
 <button id="theme" class="tool" type="button">Light</button>
 <button id="size" class="tool" type="button">Type</button>
 </div>
-<div id="age" role="status" aria-label="Age of what is shown">no view yet</div>
+<div id="age" role="timer" aria-label="Age of what is shown">no view yet</div>
 </header>
 <div id="told" role="status" hidden></div>
 <div id="alarms" hidden></div>

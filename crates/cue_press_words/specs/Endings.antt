@@ -5,7 +5,7 @@ use Rattle.cue_desk.specs.declared.ending.Ending.TheVariants as ending
 use Rattle.cue_view.specs.declared.view.Became.{Became}
 use Rattle.cue_view.specs.declared.view.Became.TheVariants as became
 
--- done only if the controller made it or knew it, or the store shows that it was carried out
+-- done only if the store shows that it was carried out, or was so already
 abbrev pub ending_by : Became → Option Ending
 ending_by became.Made = None
 ending_by became.Known = None
@@ -15,5 +15,6 @@ ending_by (became.Refused code) = Some ending.Refused
 ending_by (became.Partly code) = Some ending.Refused
 ending_by became.Nobody = Some ending.Silent
 ending_by became.Open = Some ending.Silent
+ending_by became.Unshown = Some ending.Silent
 ending_by became.Lost = Some ending.Silent
 ending_by became.Unknown = Some ending.Silent

@@ -12,6 +12,7 @@ pub fn ending_by(became: Became) -> Option<Ending>
     match became {
         Became::Made | Became::Known | Became::Over | Became::Carried => None,
         Became::Refused(_) | Became::Partly(_) => Some(Ending::Refused),
-        Became::Nobody | Became::Open | Became::Lost | Became::Unknown => Some(Ending::Silent),
+        Became::Nobody | Became::Open | Became::Unshown => Some(Ending::Silent),
+        Became::Lost | Became::Unknown => Some(Ending::Silent),
     }
 }

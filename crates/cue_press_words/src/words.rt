@@ -65,7 +65,7 @@ fn is_dark(alarm: &Alarm) -> bool {
     match alarm {
         Alarm::NobodyListens | Alarm::Silent(_) | Alarm::OtherStore(_) => true,
         Alarm::Unread(_) | Alarm::Old(_) => true,
-        Alarm::RelayStopped(_) | Alarm::ClockPutBack(_) => false,
+        Alarm::NotShown(_) | Alarm::RelayStopped(_) | Alarm::ClockPutBack(_) => false,
         Alarm::Failed(_) | Alarm::DeviceSilent(_) => false,
     }
 }

@@ -1,5 +1,5 @@
 -- Which buttons of a view an intent presses.
-use Rattle.std.specs.Prelude.{ℕ, Bool, true, false, not, ◌&&◌, if◌then◌else◌, List, [], ◌∷◌, Option, None, Some, nat_eq}
+use Rattle.std.specs.Prelude.{ℕ, Bool, true, false, not, ◌&&◌, ◌||◌, if◌then◌else◌, List, [], ◌∷◌, Option, None, Some, nat_eq}
 use Rattle.std.specs.Prelude.{max, nat_le}
 use Rattle.std.specs.Prelude.{Result, Ok, Err}
 use Rattle.std.specs.List.{list_any}
@@ -71,11 +71,15 @@ abbrev pub is_passed : Option ℕ → ℕ → Bool
 is_passed None seq = false
 is_passed (Some newest) seq = nat_le seq newest
 
--- GO of the only attempt that stands by, once it is ready: never of one that was live at the last GO of this desk
+-- a cue was given since the attempt was stood by, by whomever, as far as the store tells
+abbrev pub was_passed : ℕ → List LiveAttempt → Bool
+was_passed seq live = list_any (λ a. nat_eq a.seq seq && a.passed) live
+
+-- GO of the only attempt that stands by, once it is ready: never of one that was live when a cue was given
 abbrev pub go_sole : Option ℕ → Sole → List LiveAttempt → Result Press Why
 go_sole passed sole.Nobody live = Err why.Nobody
 go_sole passed (sole.One seq cue) live =
-    if is_passed passed seq then Err why.Passed else go_of None (chosen_of wanted.Ready seq live) why.Nobody
+    if is_passed passed seq || was_passed seq live then Err why.Passed else go_of None (chosen_of wanted.Ready seq live) why.Nobody
 go_sole passed sole.Many live = Err why.Many
 
 -- GO that names no cue: of the attempt that is chosen, and of no other; if none is chosen, of the only one that stands

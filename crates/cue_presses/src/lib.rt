@@ -11,7 +11,8 @@
 //!   that somebody else stands by.
 //! - Of several cues that stand by, none of them chosen, a GO that names none gives none, however many of them are
 //!   ready: else the devices' haste would choose (`laws`).
-//! - After a GO of this desk, none of what stood by then is given by a GO that names none: the next STANDBY is awaited.
+//! - After a GO, of this desk or of another one, none of what stood by then is given by a GO that names none: the next
+//!   STANDBY is awaited. A command that presses once and ends sees the GO of others in the events of the store alone.
 //! - A GO that names no cue, and comes less than a second after one that was pressed, is the second tap of one finger:
 //!   it is dropped, and never gives the next cue.
 //! - A controller is a press when it rises to 64 or more, and was heard below 64 before, since the device was opened.

@@ -27,7 +27,7 @@ pub enum Why {
     Nobody,
     /// More than one stands by, and none is chosen.
     Many,
-    /// The only one that stands by was live already when this desk gave its last cue.
+    /// A cue was given since the only one that stands by was stood by.
     Passed,
     /// The cue that was named, or the attempt that is chosen, is not.
     NotThis,
@@ -157,6 +157,14 @@ fn is_passed(passed: Option<u32>, seq: u32) -> bool
     }
 }
 
+// Whether a cue was given since the attempt was stood by, by whomever.
+fn was_passed(seq: u32, live: &[LiveAttempt]) -> bool
+    ensures { result ≡ rule.was_passed seq live.now }
+{
+    live.iter()
+        .any(|attempt| attempt.seq == seq && attempt.passed)
+}
+
 // GO of the only attempt that stands by, once it is ready.
 fn go_sole(passed: Option<u32>, sole: Sole, live: &[LiveAttempt]) -> Result<Press, Why>
     ensures { result ≡ rule.go_sole passed sole live.now }
@@ -164,7 +172,7 @@ fn go_sole(passed: Option<u32>, sole: Sole, live: &[LiveAttempt]) -> Result<Pres
     match sole {
         Sole::Nobody => Err(Why::Nobody),
         Sole::One(seq, _) => {
-            if is_passed(passed, seq) {
+            if is_passed(passed, seq) || was_passed(seq, live) {
                 return Err(Why::Passed);
             }
             go_of(None, chosen_of(&Wanted::Ready, seq, live), Why::Nobody)

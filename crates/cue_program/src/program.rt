@@ -168,7 +168,7 @@ fn serve_at<'a, R: Clock + Eprint, V: Watch<LoggedWire<UdpWire<'a>>>>(
 ) -> Result<Ended, ProgramFault>
     ensures { IfOk result (λ ended. ended.turns ≤ turns) }
 {
-    say_ready(rt, dir, port);
+    say_ready(rt, alloc, dir, port);
     serve_beside(rt, alloc, engine, socket, port, turns, watch).map_err(|why| refused_port(
         rt, port, why,
     ))

@@ -1,10 +1,41 @@
 -- What the report makes of the lines of an attempt.
-use Rattle.std.specs.Prelude.{ℕ, Bool, true, false, not, ◌||◌, Option, Some, None, ◌-◌}
+use Rattle.std.specs.Prelude.{ℕ, Bool, true, false, not, ◌&&◌, ◌||◌, if◌then◌else◌, Option, Some, None, is_some, ◌-◌}
+use Rattle.cue_report.specs.declared.attempt.Attempt.{Attempt}
+use Rattle.cue_report.specs.declared.attempt.Moment.{Moment}
+use Rattle.cue_report.specs.declared.attempt.Who.{Who}
+use Rattle.cue_report.specs.declared.attempt.Who.TheVariants as who
+use Rattle.cue_log_lines.specs.declared.listed.Cause.{Cause}
+use Rattle.cue_log_lines.specs.declared.listed.Cause.TheVariants as cause
+use Rattle.cue_log_lines.specs.declared.line.Count.{Count}
+use Rattle.cue_operator.specs.declared.method.DeviceVerb.{DeviceVerb}
+use Rattle.cue_operator.specs.declared.method.DeviceVerb.TheVariants as word
 use Rattle.cue_report.specs.declared.attempt.Course.{Course}
 use Rattle.cue_report.specs.declared.attempt.Fate.{Fate}
 use Rattle.cue_report.specs.declared.attempt.Fate.TheVariants as fate
-use Rattle.cue_report.specs.declared.entry.OrderKind.{OrderKind}
-use Rattle.cue_report.specs.declared.entry.OrderKind.TheVariants as order
+use Rattle.cue_log_lines.specs.declared.line.OrderKind.{OrderKind}
+use Rattle.cue_log_lines.specs.declared.line.OrderKind.TheVariants as order
+
+-- what became of a device that failed so
+abbrev pub fate_of : Cause → Fate
+fate_of cause.Aborted = fate.Aborted
+fate_of cause.Released = fate.Released
+fate_of cause.Unseen = fate.Failed
+
+-- what becomes of a device that aborts or is released
+abbrev pub fate_by : DeviceVerb → Bool → Option Fate
+fate_by word.Abort true = Some fate.AbortedEarly
+fate_by word.Abort false = Some fate.Aborted
+fate_by word.Release true = Some fate.ReleasedEarly
+fate_by word.Release false = Some fate.Released
+fate_by word.StandingBy preparing = None
+fate_by word.Complete preparing = None
+fate_by word.Cancelled preparing = None
+fate_by word.Remove preparing = None
+
+-- for how many replies a line stands
+abbrev pub times_of : Option Count → ℕ
+times_of None = 1
+times_of (Some count) = count.times
 
 -- the seconds from one line to another, never below 0; none if one of them is not there
 abbrev pub span : Option ℕ → Option ℕ → Option ℕ
@@ -49,3 +80,27 @@ is_failed fate.ReleasedEarly = false
 is_failed fate.Aborted = true
 is_failed fate.Released = true
 is_failed fate.Failed = true
+
+-- what was done first stays
+abbrev pub first_moment : Option Moment → ℕ → Who → Option Moment
+first_moment (Some first) at by = Some first
+first_moment None at by = Some (record { at = at; by = by })
+
+-- an attempt was stood by: the first time counts
+abbrev pub after_begin : ℕ → Who → Attempt → Attempt
+after_begin at by a = record a { begun = first_moment a.begun at by }
+
+-- an attempt was given: the first time counts
+abbrev pub after_give : ℕ → Who → Attempt → Attempt
+after_give at by a = record a { given = first_moment a.given at by }
+
+-- it was neither given nor given up, and has no end
+abbrev pub is_preparing : Attempt → Bool
+is_preparing a = not (is_some a.given) && (not (is_some a.given_up) && not (is_some a.ended))
+
+-- a device asked
+abbrev pub is_device : Who → Bool
+is_device (who.Device device) = true
+is_device (who.Named name) = false
+is_device (who.Port port) = false
+is_device who.Unseen = false

@@ -1,2 +1,4 @@
 pub mod Following
-pub mod Fronts
+pub mod Range
+pub mod Running
+pub mod Telling

@@ -1,10 +1,10 @@
 //! One attempt as the report follows it.
-ghost use Rattle.std.specs.Prelude.{◌≡◌, ◌-◌, Some};
+ghost use Rattle.std.specs.Prelude.{◌≡◌, ◌-◌, [], Some, None, is_some, if◌then◌else◌};
 ghost use Rattle.cue_report.specs.Following as spec;
 
-use crate::entry::{OrderKind, Try};
 use cue_asker::AskerName;
 use cue_exchange::Outcome;
+use cue_log_lines::{OrderKind, Span, Try};
 use cue_show::{CueNo, DeviceNo};
 use std::alloc::{AllocError, Global};
 
@@ -18,6 +18,18 @@ pub enum Who {
     Port(u16),
     /// The log does not say who.
     Unseen,
+}
+
+impl Who {
+    /// Whether a device asked.
+    pub fn is_device(self) -> bool
+        ensures { result ≡ spec.is_device self }
+    {
+        match self {
+            Who::Device(_) => true,
+            Who::Named(_) | Who::Port(_) | Who::Unseen => false,
+        }
+    }
 }
 
 /// When something was done, in seconds since 1970, and who asked for it.
@@ -176,8 +188,8 @@ pub struct Attempt {
     pub why: String,
     /// Its end; none if the log does not have it.
     pub ended: Option<Ended>,
-    /// How long after the standby it ended, as the log says it; empty if the log does not have it.
-    pub after: String,
+    /// How long after the standby it ended, as the log says it; none if the log does not have it.
+    pub after: Option<Span>,
     pub devices: Vec<Course>,
 }
 
@@ -193,7 +205,15 @@ fn first_of(there: Option<u64>, at: u64) -> Option<u64>
 
 impl Attempt {
     /// An attempt of which its number and its cue are known.
-    pub fn new(alloc: Global, attempt: &Try) -> Attempt {
+    pub fn new(alloc: Global, attempt: &Try) -> Attempt
+        ensures number { result.number ≡ attempt.now.number }
+        ensures cue { result.cue ≡ attempt.now.cue }
+        ensures begun { result.begun ≡ None }
+        ensures given { result.given ≡ None }
+        ensures given_up { result.given_up ≡ None }
+        ensures ended { result.ended ≡ None }
+        ensures devices { result.devices.items ≡ [] }
+    {
         Attempt {
             number: attempt.number,
             cue: attempt.cue,
@@ -202,7 +222,7 @@ impl Attempt {
             given_up: None,
             why: String::new(alloc),
             ended: None,
-            after: String::new(alloc),
+            after: None,
             devices: Vec::new(alloc),
         }
     }
@@ -216,21 +236,29 @@ impl Attempt {
     }
 
     /// It was stood by at this second, if that is not known yet.
-    pub fn begin(&mut self, at: u64, by: &Who) {
+    pub fn begin(&mut self, at: u64, by: &Who)
+        ensures { self.new ≡ spec.after_begin at by.now self.old }
+    {
         if self.begun.is_none() {
             self.begun = Some(Moment { at, by: *by });
         }
     }
 
     /// It was given at this second, if that is not known yet.
-    pub fn give(&mut self, at: u64, by: &Who) {
+    pub fn give(&mut self, at: u64, by: &Who)
+        ensures { self.new ≡ spec.after_give at by.now self.old }
+    {
         if self.given.is_none() {
             self.given = Some(Moment { at, by: *by });
         }
     }
 
     /// It was given up at this second, if that is not known yet.
-    pub fn give_up(&mut self, at: u64, by: &Who, why: String) {
+    pub fn give_up(&mut self, at: u64, by: &Who, why: String)
+        ensures moment { self.new.given_up ≡ spec.first_moment self.old.given_up at by.now }
+        ensures why { self.new.why ≡ (if is_some self.old.given_up then self.old.why else why) }
+        ensures ended { self.new.ended ≡ self.old.ended }
+    {
         if self.given_up.is_none() {
             self.given_up = Some(Moment { at, by: *by });
             self.why = why;
@@ -293,7 +321,9 @@ impl Attempt {
     }
 
     /// Whether the devices are asked to stand by, as far as the log says.
-    pub fn is_preparing(&self) -> bool {
+    pub fn is_preparing(&self) -> bool
+        ensures { result ≡ spec.is_preparing self.now }
+    {
         self.given.is_none() && self.given_up.is_none() && self.ended.is_none()
     }
 }

@@ -1,5 +1,5 @@
 //! The times of the log: seconds since 1970, and how they are written.
-ghost use Rattle.std.specs.Prelude.{◌≡◌, IfSome, drop};
+ghost use Rattle.std.specs.Prelude.{◌≡◌, ◌%◌};
 
 use jiff::Timestamp;
 use std::alloc::{AllocError, Global};
@@ -71,25 +71,62 @@ fn piece_of(alloc: Global, date: &str, from: usize, to: usize) -> Result<String,
     String::from_str(alloc, piece)
 }
 
-/// The day of a second in UTC, as `2026-11-24`.
-pub fn day_text(alloc: Global, at: u64) -> Result<String, AllocError> {
+// The day of a second in UTC, as `2026-11-24`.
+fn day_text(alloc: Global, at: u64) -> Result<String, AllocError> {
     piece_of(alloc, date_of(alloc, at)?.as_str(), 0, 10)
 }
 
-/// The time of day of a second in UTC, as `12:13:35`.
-pub fn clock_text(alloc: Global, at: u64) -> Result<String, AllocError> {
+// The time of day of a second in UTC, as `12:13:35`.
+fn clock_text(alloc: Global, at: u64) -> Result<String, AllocError> {
     piece_of(alloc, date_of(alloc, at)?.as_str(), 11, 19)
 }
 
 /// How many seconds a day has.
 const DAY: u64 = 86_400;
 
-/// The time of day of a second, and before it the day if that is not the one of `first`.
-pub fn moment_text(alloc: Global, first: u64, at: u64) -> Result<String, AllocError> {
-    let clock = clock_text(alloc, at)?;
-    if at / DAY == first / DAY {
-        return Ok(clock);
+/// How times are shown: how many seconds a clock on the wall is ahead of UTC, and the first second, whose day is not
+/// said again.
+#[derive(Clone, Copy)]
+pub struct Times {
+    pub ahead: i64,
+    pub first: u64,
+}
+
+impl Times {
+    /// What the clock on the wall shows at a second, in seconds since 1970.
+    pub fn shown(self, at: u64) -> u64 {
+        at.saturating_add_signed(self.ahead)
     }
-    let day = day_text(alloc, at)?;
-    format!(in alloc; "{} {}", day.as_str(), clock.as_str())
+
+    /// The day of a second, as `2026-11-24`.
+    pub fn day(self, alloc: Global, at: u64) -> Result<String, AllocError> {
+        day_text(alloc, self.shown(at))
+    }
+
+    /// The time of day of a second, and before it the day if that is not the one of the first.
+    pub fn moment(self, alloc: Global, at: u64) -> Result<String, AllocError> {
+        let clock = clock_text(alloc, self.shown(at))?;
+        if self.shown(at) / DAY == self.shown(self.first) / DAY {
+            return Ok(clock);
+        }
+        let day = self.day(alloc, at)?;
+        format!(in alloc; "{} {}", day.as_str(), clock.as_str())
+    }
+
+    /// How the times are meant: `UTC`, or `UTC+01:00`.
+    pub fn zone(self, alloc: Global) -> Result<String, AllocError> {
+        let minutes = self.ahead.unsigned_abs() / 60;
+        if minutes == 0 {
+            return String::from_str(alloc, "UTC");
+        }
+        let sign = if self.ahead < 0 { '-' } else { '+' };
+        format!(in alloc; "UTC{sign}{:02}:{:02}", minutes / 60, minutes % 60)
+    }
+}
+
+/// The second of the day that a clock shows at a second since 1970.
+pub fn of_day(shown: u64) -> u64
+    ensures { result ≡ shown % 86400 }
+{
+    shown % DAY
 }

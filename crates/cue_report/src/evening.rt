@@ -9,6 +9,8 @@ mod replies;
 
 use crate::attempt::{Attempt, Who};
 use crate::cutting::Cutter;
+use crate::dates::{Times, of_day};
+use crate::range::Range;
 use asking::Asking;
 pub use counting::{Totals, totals_of};
 use cue_show::DeviceNo;
@@ -53,7 +55,7 @@ pub struct Refusal {
     pub by: Who,
     /// The address, `-` if a datagram was refused whole.
     pub address: String,
-    pub code: u32,
+    pub code: u16,
     pub why: String,
 }
 
@@ -66,6 +68,8 @@ pub struct Counts {
     pub others: u64,
     /// Lines of the log that stood there twice.
     pub repeated: u64,
+    /// Lines of the log of another time of the day.
+    pub outside: u64,
 }
 
 /// Things of which the first are kept, and the others counted.
@@ -132,6 +136,9 @@ pub struct Evening {
     is_running: bool,
     /// Whether the last line was one that stood there before.
     is_repeating: bool,
+    /// How many seconds a clock on the wall is ahead of UTC, and which part of its day is told.
+    pub ahead: i64,
+    pub range: Range,
     pub counts: Counts,
     /// The seconds of the first and of the last line.
     pub first: Option<u64>,
@@ -155,10 +162,13 @@ impl Evening {
             holders: Holders([None; MAX_DEVICES]),
             is_running: false,
             is_repeating: false,
+            ahead: 0,
+            range: Range::DAY,
             counts: Counts {
                 told: 0,
                 others: 0,
                 repeated: 0,
+                outside: 0,
             },
             first: None,
             last: None,
@@ -167,5 +177,18 @@ impl Evening {
             refusals: Kept::new(alloc),
             refused: 0,
         }
+    }
+
+    /// How the times of the evening are shown.
+    pub fn times(&self) -> Times {
+        Times {
+            ahead: self.ahead,
+            first: self.first.unwrap_or(0),
+        }
+    }
+
+    // Whether what was written at a second is told.
+    fn is_told(&self, at: u64) -> bool {
+        self.range.has(of_day(self.times().shown(at)))
     }
 }

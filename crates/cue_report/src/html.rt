@@ -2,14 +2,15 @@
 mod style;
 
 use crate::attempt::{Attempt, Course};
-use crate::dates::moment_text;
 use crate::evening::{Evening, totals_of};
 use crate::names::Names;
+use crate::running::run_of;
 use crate::sentences::{
     Told, counts_words, cue_words, deed_words, device_words, end_words, more_words, refusal_words,
-    remark_words, seconds_words, times_words, totals_words,
+    remark_words, run_words, seconds_words, times_words, title_words, totals_words,
 };
-use crate::text::{SECONDS, span_words, told_of};
+use crate::summary::{tallies, tally_words};
+use crate::text::{span_words, times_note, told_of};
 use crate::ungiven::ungiven;
 use cue_exchange::Outcome;
 use cue_html::{HEAD, push_escaped};
@@ -36,7 +37,7 @@ fn push_timed(
     at: u64,
     said: &str,
 ) -> Result<(), AllocError> {
-    let clock = moment_text(alloc, told.first, at)?;
+    let clock = told.times.moment(alloc, at)?;
     push_element(page, "<tr><td class=\"time\">", clock.as_str(), "</td>")?;
     push_element(page, "<td>", said, "</td></tr>\n")
 }
@@ -60,6 +61,57 @@ fn push_deeds(
     }
 }
 
+// The names of those who sign, and room for what the log does not know.
+const REMARKS: &str =
+    "<table class=\"signed\">\n<tr><th>Stage manager</th><th>Fly floor</th><th>Stage machinery</th></tr>
+<tr><td></td><td></td><td></td></tr>\n</table>\n<h2>Remarks</h2>\n<p class=\"room\"></p>\n";
+
+// How long the show ran, if something was given.
+fn push_run(
+    alloc: Global,
+    page: &mut String,
+    evening: &Evening,
+    told: Told<'_>,
+) -> Result<(), AllocError> {
+    match run_of(evening) {
+        Some(run) => {
+            let words = run_words(alloc, told, run)?;
+            push_element(
+                page,
+                "<p class=\"totals\">Running time ",
+                words.as_str(),
+                "</p>\n",
+            )
+        }
+        None => Ok(()),
+    }
+}
+
+// What became of each cue of the file.
+fn push_cues(
+    alloc: Global,
+    page: &mut String,
+    evening: &Evening,
+    told: Told<'_>,
+) -> Result<(), AllocError> {
+    push(page, "<h2>Cues</h2>\n<ul>\n")?;
+    let tallies = tallies(alloc, evening, told.names)?;
+    for (place, tally) in tallies.iter().enumerate() {
+        let said = tally_words(alloc, told, evening, place, *tally)?;
+        push_element(page, "<li>", said.as_str(), "</li>\n")?;
+    }
+    push(page, "</ul>\n")
+}
+
+// What the show is called, if that is said.
+fn push_title(alloc: Global, page: &mut String, names: &Names<'_>) -> Result<(), AllocError> {
+    if names.title.is_empty() {
+        return Ok(());
+    }
+    let title = title_words(alloc, names)?;
+    push_element(page, "<p class=\"span\">", title.as_str(), "</p>\n")
+}
+
 /// The head of the page, up to the first attempt.
 pub fn head(alloc: Global, evening: &Evening, names: &Names<'_>) -> Result<String, AllocError> {
     let mut page = String::new(alloc);
@@ -79,14 +131,19 @@ pub fn head(alloc: Global, evening: &Evening, names: &Names<'_>) -> Result<Strin
         span.as_str(),
         "</p>\n",
     )?;
-    let counted = totals_words(alloc, totals_of(evening))?;
+    push_title(alloc, &mut page, names)?;
+    push_run(alloc, &mut page, evening, told_of(evening, names))?;
+    let counted = totals_words(alloc, totals_of(&evening.attempts))?;
     push_element(
         &mut page,
         "<p class=\"totals\">",
         counted.as_str(),
         "</p>\n",
     )?;
-    push_element(&mut page, "<p class=\"note\">", SECONDS, "</p>\n")?;
+    let note = times_note(alloc, evening)?;
+    push_element(&mut page, "<p class=\"note\">", note.as_str(), "</p>\n")?;
+    push(&mut page, REMARKS)?;
+    push_cues(alloc, &mut page, evening, told_of(evening, names))?;
     push_deeds(alloc, &mut page, evening, told_of(evening, names))?;
     push(&mut page, "<h2>Attempts</h2>\n")?;
     if evening.attempts.is_empty() {
@@ -155,7 +212,31 @@ pub fn attempt_page(
     Ok(page)
 }
 
-// What was refused.
+// What was refused to devices, or to others.
+fn push_refusals_of(
+    alloc: Global,
+    page: &mut String,
+    evening: &Evening,
+    told: Told<'_>,
+    of_device: bool,
+) -> Result<(), AllocError> {
+    push(page, "<table>\n")?;
+    let mut is_empty = true;
+    for refusal in evening.refusals.items.iter() {
+        if refusal.by.is_device() == of_device {
+            let said = refusal_words(alloc, told.names, refusal)?;
+            push_timed(alloc, page, told, refusal.at, said.as_str())?;
+            is_empty = false;
+        }
+    }
+    push(page, "</table>\n")?;
+    if is_empty {
+        push(page, "<p>nothing</p>\n")?;
+    }
+    Ok(())
+}
+
+// What was refused, and apart from that the answers of devices that were.
 fn push_refusals(
     alloc: Global,
     page: &mut String,
@@ -163,15 +244,9 @@ fn push_refusals(
     told: Told<'_>,
 ) -> Result<(), AllocError> {
     push(page, "<h2>Refused</h2>\n")?;
-    if evening.refusals.items.is_empty() {
-        return push(page, "<p>nothing</p>\n");
-    }
-    push(page, "<table>\n")?;
-    for refusal in evening.refusals.items.iter() {
-        let said = refusal_words(alloc, told.names, refusal)?;
-        push_timed(alloc, page, told, refusal.at, said.as_str())?;
-    }
-    push(page, "</table>\n")?;
+    push_refusals_of(alloc, page, evening, told, false)?;
+    push(page, "<h2>Answers of devices that were refused</h2>\n")?;
+    push_refusals_of(alloc, page, evening, told, true)?;
     match more_words(alloc, &evening.refusals)? {
         Some(more) => push_element(page, "<p>", more.as_str(), "</p>\n"),
         None => Ok(()),
@@ -203,7 +278,7 @@ pub fn foot(alloc: Global, evening: &Evening, names: &Names<'_>) -> Result<Strin
     let mut page = String::new(alloc);
     push_refusals(alloc, &mut page, evening, told_of(evening, names))?;
     push_ungiven(alloc, &mut page, evening, names)?;
-    let counted = totals_words(alloc, totals_of(evening))?;
+    let counted = totals_words(alloc, totals_of(&evening.attempts))?;
     push_element(
         &mut page,
         "<h2>Totals</h2>\n<p>",

@@ -1,11 +1,11 @@
 //! The report of an evening, made of the log of `serve` and of a show file; and the names by which askers say who they
 //! are. Nothing here opens a file.
 //!
-//! `read` takes one line of the log and gives what it says, as an `Entry`; a line that is none of the log gives none.
-//! An `Evening` takes the bytes of a log as they come and follows what the entries say: each attempt from its standby
-//! to its end, with each of its devices. It goes over the log once, and keeps its attempts and no lines; of refusals,
-//! starts and stops it keeps the first thousand, and counts the rest. `text` and `html` draw it, piece by piece: as
-//! text of 80 columns, and as one page that stands alone and has no script.
+//! `read` takes one line of the log and gives what it says (`cue_log_lines`) and when; a line that is none of the log
+//! gives none. An `Evening` takes the bytes of a log as they come and follows what the lines say: each attempt from its
+//! standby to its end, with each of its devices. It goes over the log once, and keeps its attempts and no lines; of
+//! refusals, starts and stops it keeps the first thousand, and counts the rest. `text` and `html` draw it, piece by
+//! piece: as text of 80 columns, and as one page that stands alone and has no script.
 //!
 //! Why it is so:
 //! - The log is what was said at the time, and the store has only what is left. So the report is made of the log alone;
@@ -26,14 +26,17 @@
 #![tactic(auto)]
 
 mod attempt;
+pub mod csv;
 mod cutting;
 mod dates;
-pub mod entry;
 mod evening;
 pub mod html;
 mod names;
+mod range;
 mod reading;
+mod running;
 mod sentences;
+mod summary;
 pub mod text;
 mod ungiven;
 mod wrapping;
@@ -41,4 +44,5 @@ mod wrapping;
 pub use attempt::{Attempt, Course, Fate, Moment, Who, seconds_between};
 pub use evening::Evening;
 pub use names::Names;
-pub use reading::{Line, read};
+pub use range::Range;
+pub use reading::{Dated, Said, read};

@@ -6,6 +6,8 @@ use std::alloc::{AllocError, Global};
 /// The names of a show file, and which cues it has.
 #[derive(Drop)]
 pub struct Names<'a> {
+    /// What the show is called; empty if that is not said.
+    pub title: &'a str,
     texts: Vec<&'a str>,
     // For each cue and each device the place of its name, in the order of the file.
     cues: IndexMap<CueNo, usize>,
@@ -16,6 +18,7 @@ impl<'a> Names<'a> {
     /// A file without cues and devices.
     pub fn new(alloc: Global) -> Names<'a> {
         Names {
+            title: "",
             texts: Vec::new(alloc),
             cues: IndexMap::new(alloc),
             devices: IndexMap::new(alloc),

@@ -1,10 +1,15 @@
 //! What the report says, in words: the same in both drawings.
-use crate::attempt::{Attempt, Course, Fate, Moment, Who};
-use crate::dates::moment_text;
+ghost use Rattle.std.specs.Prelude.{◌≡◌};
+ghost use Rattle.cue_report.specs.Telling as spec;
+
+use crate::attempt::{Attempt, Course, Ended, Fate, Moment, Who};
+use crate::dates::Times;
 use crate::evening::{Counts, Deed, Done, Kept, Refusal, Totals};
 use crate::names::Names;
+use crate::running::Run;
+use cue_log_lines::{Asked, Count, Why};
 use cue_show::{CueNo, DeviceNo};
-use cue_words::{outcome_words, shown_text};
+use cue_words::{code_words, outcome_words, reason_words, shown_text};
 use std::alloc::{AllocError, Global};
 use std::fmt::Write;
 
@@ -15,6 +20,54 @@ const MOST: usize = 100;
 pub fn shown_bytes(alloc: Global, bytes: &[u8]) -> Result<String, AllocError> {
     let text = String::from_utf8_lossy(alloc, bytes)?;
     shown_text(alloc, text.as_str())
+}
+
+/// Why a preparation was given up: `device 3 aborted`.
+pub fn why_words(alloc: Global, why: Why) -> Result<String, AllocError> {
+    match why {
+        Why::Aborted(device) => format!(in alloc; "device {} aborted", device.number()),
+        Why::Released(device) => format!(in alloc; "device {} was released", device.number()),
+        Why::Said(reason) => String::from_str(alloc, reason_words(reason)),
+    }
+}
+
+// Puts how often something was counted after a text.
+fn push_count(text: &mut String, count: Count) -> Result<(), AllocError> {
+    let word = if count.times == 1 { "time" } else { "times" };
+    let span = count.span;
+    write!(
+        text,
+        ", {} {word} more in {}.{} s",
+        count.times, span.seconds, span.tenths
+    )
+}
+
+/// How often refusals of several kinds were counted.
+pub fn counted_words(alloc: Global, count: Count) -> Result<String, AllocError> {
+    let mut text = String::from_str(alloc, "of several kinds")?;
+    push_count(&mut text, count)?;
+    Ok(text)
+}
+
+/// Why a command was refused, and what is known beyond that.
+pub fn refused_words(
+    alloc: Global,
+    reply: &Asked<'_>,
+    code: u16,
+    count: Option<Count>,
+) -> Result<String, AllocError> {
+    let mut text = String::from_str(alloc, code_words(i32::from(code)))?;
+    if !reply.more.bytes().is_empty() {
+        let more = shown_bytes(alloc, reply.more.bytes())?;
+        write!(text, ": {}", more.as_str())?;
+    }
+    if !reply.is_sent {
+        text.push_str(", the reply was not sent")?;
+    }
+    if let Some(count) = count {
+        push_count(&mut text, count)?;
+    }
+    Ok(text)
 }
 
 // The front of a name.
@@ -86,10 +139,10 @@ fn push_by(
     Ok(())
 }
 
-/// What is said of a whole evening: the second of its first line, and the names of its show file.
+/// What is said of a whole evening: how its times are shown, and the names of its show file.
 #[derive(Clone, Copy)]
 pub struct Told<'a> {
-    pub first: u64,
+    pub times: Times,
     pub names: &'a Names<'a>,
 }
 
@@ -111,7 +164,7 @@ fn push_moment(
 ) -> Result<(), AllocError> {
     if let Some(moment) = moment {
         push_comma(text)?;
-        let clock = moment_text(alloc, told.first, moment.at)?;
+        let clock = told.times.moment(alloc, moment.at)?;
         write!(text, "{what} {}", clock.as_str())?;
         push_by(alloc, text, told.names, moment.by)?;
     }
@@ -129,11 +182,15 @@ pub fn times_words(alloc: Global, told: Told<'_>, attempt: &Attempt) -> Result<S
     push_moment(alloc, &mut text, told, "given up", attempt.given_up)?;
     if let Some(ended) = attempt.ended {
         push_comma(&mut text)?;
-        let clock = moment_text(alloc, told.first, ended.at)?;
+        let clock = told.times.moment(alloc, ended.at)?;
         write!(text, "ended {}", clock.as_str())?;
     }
-    if !attempt.after.is_empty() {
-        write!(text, ", {} after the standby", attempt.after.as_str())?;
+    if let Some(after) = attempt.after {
+        write!(
+            text,
+            ", {}.{} s after the standby",
+            after.seconds, after.tenths
+        )?;
     }
     Ok(text)
 }
@@ -165,17 +222,23 @@ fn push_devices(
     Ok(())
 }
 
+/// How an attempt ended, by the line of its end; if the log has none, that is said.
+pub fn ending_words(ended: Option<Ended>) -> &'static str
+    ensures { result.now ≡ spec.ending_words ended }
+{
+    match ended {
+        Some(ended) => outcome_words(ended.outcome),
+        None => "no end in this log",
+    }
+}
+
 /// How an attempt ended, and why: `complete, without device 4 "Lamp"`.
 pub fn end_words(
     alloc: Global,
     names: &Names<'_>,
     attempt: &Attempt,
 ) -> Result<String, AllocError> {
-    let words = match attempt.ended {
-        Some(ended) => outcome_words(ended.outcome),
-        None => "no end in this log",
-    };
-    let mut text = String::from_str(alloc, words)?;
+    let mut text = String::from_str(alloc, ending_words(attempt.ended))?;
     if !attempt.why.is_empty() {
         write!(text, ": {}", attempt.why.as_str())?;
     }
@@ -268,8 +331,8 @@ fn began_words(
 ) -> Result<String, AllocError> {
     let mut text = format!(in alloc; "serve began, {dir} at port {port}")?;
     if let Some(silent) = silent {
-        let from = moment_text(alloc, told.first, silent)?;
-        let to = moment_text(alloc, told.first, at)?;
+        let from = told.times.moment(alloc, silent)?;
+        let to = told.times.moment(alloc, at)?;
         write!(
             text,
             "; it had stopped between {} and {}",
@@ -319,6 +382,25 @@ pub fn more_words<T>(alloc: Global, kept: &Kept<T>) -> Result<Option<String>, Al
     Ok(Some(format!(in alloc; "and {} more", kept.more)?))
 }
 
+/// How long the show ran: `2:31:04, from the first GO 19:32:10 to the last end 22:03:14`.
+pub fn run_words(alloc: Global, told: Told<'_>, run: Run) -> Result<String, AllocError> {
+    let seconds = run.seconds();
+    let (minutes, second) = (seconds / 60 % 60, seconds % 60);
+    let from = told.times.moment(alloc, run.from)?;
+    let to = told.times.moment(alloc, run.to)?;
+    format!(in alloc;
+        "{}:{minutes:02}:{second:02}, from the first GO {} to the last end {}",
+        seconds / 3600,
+        from.as_str(),
+        to.as_str()
+    )
+}
+
+/// What the show is called.
+pub fn title_words(alloc: Global, names: &Names<'_>) -> Result<String, AllocError> {
+    shown_text(alloc, front_of(names.title))
+}
+
 /// How many attempts ended how.
 pub fn totals_words(alloc: Global, totals: Totals) -> Result<String, AllocError> {
     let attempts = if totals.all == 1 {
@@ -341,6 +423,9 @@ pub fn counts_words(alloc: Global, counts: Counts) -> Result<String, AllocError>
     let mut text = format!(in alloc; "lines: {} of the log", counts.told)?;
     if counts.others > 0 {
         write!(text, ", {} that are none of it", counts.others)?;
+    }
+    if counts.outside > 0 {
+        write!(text, ", {} of another time", counts.outside)?;
     }
     if counts.repeated > 0 {
         write!(text, ", {} that stood there twice", counts.repeated)?;

@@ -1,24 +1,30 @@
 //! The report as text of 80 columns.
 use crate::attempt::Attempt;
-use crate::dates::{clock_text, day_text, moment_text};
 use crate::evening::{Evening, totals_of};
 use crate::names::Names;
+use crate::running::run_of;
 use crate::sentences::{
     Told, counts_words, course_words, cue_words, deed_words, device_words, end_words, more_words,
-    refusal_words, times_words, totals_words,
+    refusal_words, run_words, times_words, title_words, totals_words,
 };
+use crate::summary::{tallies, tally_words};
 use crate::ungiven::ungiven;
 use crate::wrapping::push_line;
 use std::alloc::{AllocError, Global};
 
-/// What the text says of the whole seconds of the log.
-pub const SECONDS: &str =
-    "All times are UTC. The log has whole seconds: a time between two lines may be a second off.";
+/// How the times are meant.
+pub fn times_note(alloc: Global, evening: &Evening) -> Result<String, AllocError> {
+    let zone = evening.times().zone(alloc)?;
+    format!(in alloc;
+        "All times are {}. The log has whole seconds: a time between two lines may be a second off.",
+        zone.as_str()
+    )
+}
 
 // What is told of an evening with these names.
 pub(crate) fn told_of<'a>(evening: &Evening, names: &'a Names<'a>) -> Told<'a> {
     Told {
-        first: evening.first.unwrap_or(0),
+        times: evening.times(),
         names,
     }
 }
@@ -28,14 +34,17 @@ pub fn span_words(alloc: Global, evening: &Evening) -> Result<String, AllocError
     let (Some(first), Some(last)) = (evening.first, evening.last) else {
         return String::from_str(alloc, "no line of this file is one of the log of serve");
     };
-    let day = day_text(alloc, first)?;
-    let from = clock_text(alloc, first)?;
-    let to = moment_text(alloc, first, last)?;
+    let times = evening.times();
+    let day = times.day(alloc, first)?;
+    let from = times.moment(alloc, first)?;
+    let to = times.moment(alloc, last)?;
+    let zone = times.zone(alloc)?;
     format!(in alloc;
-        "{}, {} to {} UTC",
+        "{}, {} to {} {}",
         day.as_str(),
         from.as_str(),
-        to.as_str()
+        to.as_str(),
+        zone.as_str()
     )
 }
 
@@ -47,7 +56,7 @@ fn push_timed(
     at: u64,
     said: &str,
 ) -> Result<(), AllocError> {
-    let clock = moment_text(alloc, told.first, at)?;
+    let clock = told.times.moment(alloc, at)?;
     let line = format!(in alloc; "{}  {said}", clock.as_str())?;
     push_line(text, 2, line.as_str())
 }
@@ -70,16 +79,53 @@ fn push_deeds(
     }
 }
 
+// How long the show ran, if something was given.
+fn push_run(
+    alloc: Global,
+    text: &mut String,
+    evening: &Evening,
+    told: Told<'_>,
+) -> Result<(), AllocError> {
+    match run_of(evening) {
+        Some(run) => {
+            text.push_str("\nRUNNING TIME\n")?;
+            push_line(text, 2, run_words(alloc, told, run)?.as_str())
+        }
+        None => Ok(()),
+    }
+}
+
+// What became of each cue of the file.
+fn push_cues(
+    alloc: Global,
+    text: &mut String,
+    evening: &Evening,
+    told: Told<'_>,
+) -> Result<(), AllocError> {
+    text.push_str("\nCUES\n")?;
+    let tallies = tallies(alloc, evening, told.names)?;
+    for (place, tally) in tallies.iter().enumerate() {
+        let said = tally_words(alloc, told, evening, place, *tally)?;
+        push_line(text, 2, said.as_str())?;
+    }
+    Ok(())
+}
+
 /// The head of the report, up to its first attempt.
 pub fn head(alloc: Global, evening: &Evening, names: &Names<'_>) -> Result<String, AllocError> {
     let mut text = String::from_str(alloc, "REPORT OF AN EVENING\n")?;
+    if !names.title.is_empty() {
+        push_line(&mut text, 2, title_words(alloc, names)?.as_str())?;
+    }
     push_line(&mut text, 2, span_words(alloc, evening)?.as_str())?;
     push_line(
         &mut text,
         2,
-        totals_words(alloc, totals_of(evening))?.as_str(),
+        totals_words(alloc, totals_of(&evening.attempts))?.as_str(),
     )?;
-    push_line(&mut text, 2, SECONDS)?;
+    push_line(&mut text, 2, times_note(alloc, evening)?.as_str())?;
+    push_run(alloc, &mut text, evening, told_of(evening, names))?;
+    push_cues(alloc, &mut text, evening, told_of(evening, names))?;
     push_deeds(alloc, &mut text, evening, told_of(evening, names))?;
     text.push_str("\nATTEMPTS\n")?;
     if evening.attempts.is_empty() {
@@ -116,7 +162,29 @@ pub fn attempt_text(
     Ok(text)
 }
 
-// What was refused.
+// What was refused to devices, or to others.
+fn push_refusals_of(
+    alloc: Global,
+    text: &mut String,
+    evening: &Evening,
+    told: Told<'_>,
+    of_device: bool,
+) -> Result<(), AllocError> {
+    let mut is_empty = true;
+    for refusal in evening.refusals.items.iter() {
+        if refusal.by.is_device() == of_device {
+            let said = refusal_words(alloc, told.names, refusal)?;
+            push_timed(alloc, text, told, refusal.at, said.as_str())?;
+            is_empty = false;
+        }
+    }
+    if is_empty {
+        text.push_str("  nothing\n")?;
+    }
+    Ok(())
+}
+
+// What was refused, and apart from that the answers of devices that were.
 fn push_refusals(
     alloc: Global,
     text: &mut String,
@@ -124,13 +192,9 @@ fn push_refusals(
     told: Told<'_>,
 ) -> Result<(), AllocError> {
     text.push_str("\nREFUSED\n")?;
-    if evening.refusals.items.is_empty() {
-        text.push_str("  nothing\n")?;
-    }
-    for refusal in evening.refusals.items.iter() {
-        let said = refusal_words(alloc, told.names, refusal)?;
-        push_timed(alloc, text, told, refusal.at, said.as_str())?;
-    }
+    push_refusals_of(alloc, text, evening, told, false)?;
+    text.push_str("\nANSWERS OF DEVICES THAT WERE REFUSED\n")?;
+    push_refusals_of(alloc, text, evening, told, true)?;
     match more_words(alloc, &evening.refusals)? {
         Some(more) => push_line(text, 2, more.as_str()),
         None => Ok(()),
@@ -165,7 +229,7 @@ pub fn foot(alloc: Global, evening: &Evening, names: &Names<'_>) -> Result<Strin
     push_line(
         &mut text,
         2,
-        totals_words(alloc, totals_of(evening))?.as_str(),
+        totals_words(alloc, totals_of(&evening.attempts))?.as_str(),
     )?;
     let line = format!(in alloc; "{} refused", evening.refused)?;
     push_line(&mut text, 2, line.as_str())?;

@@ -2,5 +2,7 @@
 #![tactic(auto)]
 
 mod saying;
+mod shown;
 
 pub use saying::{failed, print, say, say_fault};
+pub use shown::Shown;

@@ -2,8 +2,8 @@
 //! that stands alone. Nothing here opens a file.
 //!
 //! Why it is so:
-//! - A part that is plain text stands between quotes, all other bytes as `hex` and digits: so nobody takes one for the
-//!   other. A text between quotes has no quote in it (`cue_show_file::plain_text`).
+//! - Bytes stand as the file has them: a text between quotes, as TOML writes it, and all else as `hex` and digits. That
+//!   `5a` is the letter Z is an accident, and a sheet that says Z is one at which nobody finds the byte again.
 //! - Nothing is cut off: a name that is longer than its column goes on in the next line of this column.
 //! - The page has no script, and takes nothing from anywhere. What people wrote is put into it by `cue_html`
 //!   alone. A colour is a border, since browsers print no background, with its word beside it for a page in grey.

@@ -5,7 +5,7 @@ use crate::sent::sent_text;
 use crate::text::{place_text, together_text};
 use cue_html::{HEAD, push_escaped};
 use cue_show::Part;
-use cue_show_file::{CueEntry, DeviceEntry, ShowFile, cue_text};
+use cue_show_file::{CueEntry, DeviceEntry, Form, ShowFile, cue_text};
 use std::alloc::{AllocError, Global};
 use std::fmt::Write;
 use style::STYLE;
@@ -123,8 +123,8 @@ impl Page<'_> {
     }
 
     // The cells of a part, with which its row ends.
-    fn push_part(&mut self, part: &Part) -> Result<(), AllocError> {
-        let sent = sent_text(self.alloc, part.bytes.as_slice())?;
+    fn push_part(&mut self, part: &Part, form: Form) -> Result<(), AllocError> {
+        let sent = sent_text(self.alloc, form, part.bytes.as_slice())?;
         let file = self.file;
         let name = file.device_name(part.device).unwrap_or("");
         write!(
@@ -160,7 +160,7 @@ impl Page<'_> {
             if index > 0 {
                 self.text.push_str("<tr>")?;
             }
-            self.push_part(part)?;
+            self.push_part(part, entry.form(index))?;
         }
         self.text.push_str("</tbody>\n")
     }

@@ -6,7 +6,7 @@ use crate::cells::{Cell, GAP, push_row};
 use crate::sent::sent_text;
 use cue_board::{COLUMNS, fitted, with_words};
 use cue_show::Part;
-use cue_show_file::{CueEntry, DeviceEntry, ShowFile, cue_text};
+use cue_show_file::{CueEntry, DeviceEntry, Form, ShowFile, cue_text};
 use std::alloc::{AllocError, Global};
 
 /// The columns of the number of a device.
@@ -120,10 +120,10 @@ impl Sheet<'_> {
         (width / 2).saturating_mul(2)
     }
 
-    fn push_part(&mut self, part: &Part) -> Result<(), AllocError> {
+    fn push_part(&mut self, part: &Part, form: Form) -> Result<(), AllocError> {
         let file = self.file;
         let name = file.device_name(part.device).unwrap_or("");
-        let sent = sent_text(self.alloc, part.bytes.as_slice())?;
+        let sent = sent_text(self.alloc, form, part.bytes.as_slice())?;
         let optional = if part.optional { "optional" } else { "" };
         let cells = [
             Cell::of(self.alloc, "", self.number)?,
@@ -159,8 +159,8 @@ impl Sheet<'_> {
     fn push_cue(&mut self, entry: &CueEntry) -> Result<(), AllocError> {
         self.push_line("")?;
         self.push_signs(entry)?;
-        for part in entry.parts.as_slice() {
-            self.push_part(part)?;
+        for (index, part) in entry.parts.as_slice().iter().enumerate() {
+            self.push_part(part, entry.form(index))?;
         }
         Ok(())
     }

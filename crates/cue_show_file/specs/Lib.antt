@@ -5,5 +5,6 @@ pub mod Reading
 pub mod Reviewed
 pub mod Routes
 pub mod Said
+pub mod Seen
 pub mod Together
 pub mod Written

@@ -1,9 +1,10 @@
 -- What an evening wants of a show file, beside what a controller takes.
-use Rattle.std.specs.Prelude.{ℕ, ◌==◌, Bool, true, ◌&&◌, ◌||◌, not, List, length, Option, Some, None, is_none}
+use Rattle.std.specs.Prelude.{ℕ, ◌==◌, Bool, true, ◌&&◌, ◌||◌, not, List, length, Option, Some, None, is_none, unwrap_or}
 use Rattle.std.specs.List.{list_all}
 use Rattle.cue_show_file.specs.declared.file.CueEntry.{CueEntry}
 use Rattle.cue_show_file.specs.declared.file.DeviceEntry.{DeviceEntry}
 use Rattle.cue_show_file.specs.declared.file.ShowFile.{ShowFile}
+use Rattle.cue_show_file.specs.declared.mistake.Finding.{Finding}
 use Rattle.cue_show_file.specs.Together.{is_group}
 
 -- the device does not have the port that the file says of the controller
@@ -31,3 +32,7 @@ is_reviewed f =
     has_something f
     && (list_all (λ e. is_apart f.port e) f.devices.items
     && (list_all (λ e. has_listen f.listen e) f.devices.items && are_together f.cues.items f.cues.items))
+
+-- the line of a finding; 0 if it has none
+abbrev pub line_of : Finding → ℕ
+line_of f = unwrap_or f.line 0

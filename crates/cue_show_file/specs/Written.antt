@@ -186,6 +186,7 @@ bare_cue e =
       flag = None;
       companions = [];
       parts = e.1;
+      forms = [];
     }
 
 -- the file has all that the show has, in order, and nothing else

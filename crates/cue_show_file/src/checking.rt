@@ -136,7 +136,7 @@ fn note_refused(findings: &mut Findings) -> Result<(), AllocError>
 fn note_cue(show: &Show, findings: &mut Findings, entry: &CueEntry) -> Result<(), AllocError>
     ensures { IfOk result (λ _. is_clean findings.new ≡ false) }
 {
-    if show.has_cue(entry.number) {
+    if show.has_cue(entry.number) || findings.has_refused(entry.number) {
         findings.note(Mistake::CueTwice)?;
     } else if show.is_full() {
         findings.note(Mistake::TooManyCues)?;
@@ -148,6 +148,16 @@ fn note_cue(show: &Show, findings: &mut Findings, entry: &CueEntry) -> Result<()
     note_refused(findings)
 }
 
+// Notes a cue that is taken, if an earlier one with its number was refused.
+fn note_again(findings: &mut Findings, entry: &CueEntry) -> Result<(), AllocError>
+    ensures { IfOk result (λ _. is_clean findings.new ≡ is_clean findings.old) }
+{
+    if findings.has_refused(entry.number) {
+        findings.note(Mistake::CueTwice)?;
+    }
+    Ok(())
+}
+
 // Puts a cue on the stack; whether it is taken.
 fn check_cue(show: &mut Show, findings: &mut Findings, entry: &CueEntry) -> Result<bool, AllocError>
     ensures show { IfOk result (λ taken. after_cue show.old entry.now ≡ if_all taken show.new) }
@@ -156,9 +166,11 @@ fn check_cue(show: &mut Show, findings: &mut Findings, entry: &CueEntry) -> Resu
     findings.look_at(entry.line, Subject::Cue(entry.number));
     if show.can_add_cue(entry.number, &entry.parts) {
         show.add_cue(entry.number, entry.parts.clone()?)?;
+        note_again(findings, entry)?;
         return Ok(true);
     }
     note_cue(show, findings, entry)?;
+    findings.refuse(entry.number)?;
     Ok(false)
 }
 

@@ -1,5 +1,7 @@
 //! Findings as people read them: what has one cause has one line.
 ghost use Rattle.std.specs.Prelude.{◌≡◌, ◌==◌, ◌&&◌, IfOk, false, length};
+ghost use Rattle.std.specs.List.Sorted.{IsNonDecreasingBy, IsPermutation};
+ghost use Rattle.cue_show_file.specs.Reviewed.{line_of};
 
 use crate::mistake::{Finding, Key, Mistake, Subject};
 use cue_show::DeviceNo;
@@ -53,16 +55,20 @@ impl Unknown {
         unknown <= self.numberless
     }
 
-    // What is told of a device that the file does not have; none if it was told, or may be one without a number.
+    // What is told of a device that the file does not have; none if it was told.
     fn telling(&mut self, device: DeviceNo) -> Option<Mistake> {
         let index = usize::from(device.number());
-        if self.is_explained() || self.told[index] {
+        if self.told[index] {
             return None;
         }
         self.told[index] = true;
-        Some(match self.counts[index] {
-            0 | 1 => Mistake::UnknownDevice(device),
-            count => Mistake::UnknownInCues(device, count.saturating_sub(1)),
+        let others = self.counts[index].saturating_sub(1);
+        Some(if self.is_explained() {
+            Mistake::UnknownYet(device, others)
+        } else if others > 0 {
+            Mistake::UnknownInCues(device, others)
+        } else {
+            Mistake::UnknownDevice(device)
         })
     }
 }
@@ -107,6 +113,13 @@ fn at_least_one(found: &mut Vec<Finding>) -> Result<(), AllocError>
     Ok(())
 }
 
+// The line of a finding; 0 if it has none.
+fn line_of(finding: &Finding) -> usize
+    ensures { result ≡ line_of finding.now }
+{
+    finding.line.unwrap_or(0)
+}
+
 // All that is told of these findings.
 fn told(
     alloc: Global,
@@ -127,9 +140,21 @@ fn told(
     Ok(found)
 }
 
-/// What is reported of the findings of `read` and of `check`. That parts are for a device which the file does not have
-/// is reported once for each device, with how many cues it concerns; not at all if as many devices of the file have
-/// no number that can be read, since they may be those. There is nothing to report exactly if nothing was found.
+/// These findings by their lines, those of one line as they were found. What has no line comes first.
+pub fn by_line(findings: Vec<Finding>) -> Result<Vec<Finding>, AllocError>
+    ensures all { IfOk result (λ found. IsPermutation findings.items found.items) }
+    ensures sorted { IfOk result (λ found. IsNonDecreasingBy (λ f. line_of f) found.items) }
+    ensures none { IfOk result (λ found. length found.items ≡ length findings.items) }
+{
+    let mut findings = findings;
+    findings.sort_by_key(|finding| line_of(finding))?;
+    Ok(findings)
+}
+
+/// What is reported of the findings of `read` and of `check`, by their lines. That parts are for a device which the
+/// file does not have is reported once for each device, with how many cues it concerns; in other words if as many
+/// devices of the file have no number that can be read, since they may be those. There is nothing to report exactly if
+/// nothing was found.
 pub fn condensed(
     alloc: Global,
     read: Vec<Finding>,
@@ -143,5 +168,5 @@ pub fn condensed(
     }
     let mut found = told(alloc, read, checked)?;
     at_least_one(&mut found)?;
-    Ok(found)
+    by_line(found)
 }

@@ -50,6 +50,46 @@ impl Companions {
     }
 }
 
+/// How a show file has the bytes of a part.
+#[derive(Clone, Copy, Debug, PartialEq, Eq, Drop)]
+pub enum Form {
+    /// As a text.
+    Text,
+    /// By hexadecimal digits, or not at all.
+    Digits,
+}
+
+/// The forms of the parts of a cue, in the order of the parts.
+#[derive(Drop)]
+pub struct Forms {
+    forms: Vec<Form>,
+}
+
+impl Model for Forms {
+    ghost use Rattle.std.specs.Prelude.{List};
+    ghost use Rattle.cue_show_file.specs.declared.file.Form.{Form};
+
+    ghost Value = { List Form };
+
+    ghost view = { λ f. f.forms.items };
+}
+
+impl Forms {
+    /// These forms.
+    pub fn of(forms: Vec<Form>) -> Forms
+        ensures { result ≡ forms.items }
+    {
+        Forms { forms }
+    }
+
+    /// The forms.
+    pub fn as_slice(&self) -> &[Form]
+        ensures { result.now ≡ self.now }
+    {
+        &self.forms
+    }
+}
+
 /// A cue of a show file.
 #[derive(Drop)]
 pub struct CueEntry {
@@ -67,6 +107,23 @@ pub struct CueEntry {
     /// What the file names at `with`; the controller never sees it.
     pub companions: Companions,
     pub parts: Parts,
+    /// How the file has the bytes of each part; none of what came out of a store, which does not say.
+    pub forms: Forms,
+}
+
+impl CueEntry {
+    ghost use Rattle.std.specs.Prelude.{◌≡◌, get_or};
+    ghost use Rattle.cue_show_file.specs.declared.file.Form.TheVariants as form;
+
+    /// How the file has the bytes of the part with this index.
+    pub fn form(&self, index: usize) -> Form
+        ensures { result ≡ get_or self.now.forms index form.Digits }
+    {
+        match self.forms.as_slice().get(index) {
+            Some(form) => *form,
+            None => Form::Digits,
+        }
+    }
 }
 
 /// A show file: what it says, in the order in which it says it.
@@ -81,14 +138,30 @@ pub struct ShowFile {
 }
 
 impl ShowFile {
+    ghost use Rattle.std.specs.Prelude.{◌≡◌, option_copied};
+    ghost use Rattle.cue_show_file.specs.Seen.{device_of, entry_of, name_of};
+
+    // The entry of the device.
+    fn device(&self, device: DeviceNo) -> Option<&DeviceEntry>
+        ensures { option_copied result ≡ device_of self.now device }
+    {
+        self.devices.iter().find(|entry| entry.number == device)
+    }
+
     /// What the file calls the device.
-    pub fn device_name(&self, device: DeviceNo) -> Option<&str> {
-        let entry = self.devices.iter().find(|entry| entry.number == device)?;
-        entry.name.as_deref()
+    pub fn device_name(&self, device: DeviceNo) -> Option<&str>
+        ensures { option_copied result ≡ name_of self.now device }
+    {
+        match self.device(device) {
+            Some(entry) => entry.name.as_deref(),
+            None => None,
+        }
     }
 
     /// The entry of the cue.
-    pub fn cue(&self, cue: CueNo) -> Option<&CueEntry> {
+    pub fn cue(&self, cue: CueNo) -> Option<&CueEntry>
+        ensures { option_copied result ≡ entry_of self.now cue }
+    {
         self.cues.iter().find(|entry| entry.number == cue)
     }
 }

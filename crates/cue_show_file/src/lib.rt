@@ -16,8 +16,10 @@
 //!   as the first line that has it.
 //! - A device at the controller's port, an address without `listen` and an empty file are a review, apart from the
 //!   check: on the evening a board without a relay is better than none.
-//! - One cause has one line: a device that the file does not have is reported once, with how many cues it concerns; and
-//!   not at all while as many devices of the file have no number that can be read, since they may be those.
+//! - One cause has one line: a device that the file does not have is reported once, with how many cues it concerns. It
+//!   may be one of the file whose number cannot be read; then that is said with it.
+//! - All mistakes come at once, by their lines: one that is found only after another was mended is one more walk to the
+//!   machine.
 //! - Export writes its own text: the kit's tables have their keys by the alphabet, and each part under a header of its
 //!   own. Names, notes and addresses are outside of what is proved of it, since the controller never sees them.
 //!
@@ -42,8 +44,8 @@ mod writing;
 
 pub use beginning::BEGINNING;
 pub use checking::{Checked, check};
-pub use condensing::condensed;
-pub use file::{Companions, CueEntry, DeviceEntry, ShowFile};
+pub use condensing::{by_line, condensed};
+pub use file::{Companions, CueEntry, DeviceEntry, Form, Forms, ShowFile};
 pub use marks::{COLORS, Color, FLAGS, Flag};
 pub use mistake::{Finding, Mistake, Section, Slip, Subject};
 pub use reading::{Draft, read};
@@ -51,4 +53,4 @@ pub use reviewing::{Review, review_of};
 pub use routing::{routes, shared_port};
 pub use text::{cue_text, plain_text};
 pub use together::{Group, groups_of, others_of};
-pub use writing::{of_show, written};
+pub use writing::{Quoted, of_show, written};

@@ -26,8 +26,8 @@ impl fmt::Display for Subject {
             Subject::File => f.write_str("the file"),
             Subject::Device(device) => write!(f, "device {}", device.number()),
             Subject::Cue(cue) => write!(f, "cue {}", cue.text().escape_ascii()),
-            Subject::DeviceAt(place) => write!(f, "the {place}. device"),
-            Subject::CueAt(place) => write!(f, "the {place}. cue"),
+            Subject::DeviceAt(place) => write!(f, "device entry {place}"),
+            Subject::CueAt(place) => write!(f, "cue entry {place}"),
         }
     }
 }
@@ -146,6 +146,8 @@ pub enum Mistake {
     UnknownDevice(DeviceNo),
     /// The same of this cue and of so many others.
     UnknownInCues(DeviceNo, usize),
+    /// The same, and the device may be one whose number cannot be read.
+    UnknownYet(DeviceNo, usize),
     /// A show would refuse the cue, and none of the others says why. No file is known that has it.
     Refused,
     /// The file has neither a device nor a cue.
@@ -192,10 +194,12 @@ pub(crate) struct Findings {
     found: Vec<Finding>,
     line: Option<usize>,
     subject: Subject,
+    // The cues of the file so far that no show was given, for what is wrong with them.
+    refused: Vec<CueNo>,
 }
 
 impl Findings {
-    ghost use Rattle.std.specs.Prelude.{◌≡◌, IfOk, false, length, true};
+    ghost use Rattle.std.specs.Prelude.{◌≡◌, IfOk, IsTrue, false, length, true};
     ghost use Rattle.cue_show_file.specs.Reading.{is_clean};
 
     /// None yet; the file as a whole is looked at.
@@ -206,6 +210,7 @@ impl Findings {
             found: Vec::new(alloc),
             line: None,
             subject: Subject::File,
+            refused: Vec::new(alloc),
         }
     }
 
@@ -222,6 +227,21 @@ impl Findings {
     {
         self.line = line;
         self.subject = subject;
+    }
+
+    /// No show is given this cue.
+    pub(crate) fn refuse(&mut self, cue: CueNo) -> Result<(), AllocError>
+        ensures { IfOk result (λ _. self.new.found ≡ self.old.found) }
+    {
+        self.refused.push(cue)?;
+        Ok(())
+    }
+
+    /// Whether something was found, and no show was given this cue.
+    pub(crate) fn has_refused(&self, cue: CueNo) -> bool
+        ensures { IsTrue result → is_clean self.now ≡ false }
+    {
+        !self.found.is_empty() && self.refused.iter().any(|refused| *refused == cue)
     }
 
     /// One more.

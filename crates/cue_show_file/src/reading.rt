@@ -7,6 +7,7 @@ ghost use Rattle.cue_show_file.specs.Said.{file_said, has_only, is_among, is_por
 
 mod cues;
 mod devices;
+mod forms;
 mod keys;
 mod marks;
 mod parts;

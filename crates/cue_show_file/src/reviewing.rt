@@ -188,15 +188,31 @@ fn note_empty(findings: &mut Findings, file: &ShowFile) -> Result<(), AllocError
     Ok(())
 }
 
+// Notes each device that has the port of the controller, or an address that nobody can reach.
+fn note_devices(findings: &mut Findings, file: &ShowFile) -> Result<(), AllocError>
+    ensures { IfOk result (λ _. is_clean findings.new
+        ≡ ((is_clean findings.old && list_all (λ e. is_apart file.now.port e) file.now.devices.items)
+        && list_all (λ e. has_listen file.now.listen e) file.now.devices.items)) }
+{
+    note_own_ports(findings, file.port, &file.devices)?;
+    note_addresses(findings, file.listen, &file.devices)
+}
+
+// Notes all that has to be mended.
+fn note_all(findings: &mut Findings, file: &ShowFile) -> Result<(), AllocError>
+    ensures { IfOk result (λ _. is_clean findings.new ≡ (is_clean findings.old && is_reviewed file.now)) }
+{
+    note_empty(findings, file)?;
+    note_devices(findings, file)?;
+    note_all_companions(findings, &file.cues, &file.cues)
+}
+
 // What has to be mended.
 fn mistakes_of(alloc: Global, file: &ShowFile) -> Result<Vec<Finding>, AllocError>
     ensures { IfOk result (λ found. (length found.items == 0) ≡ is_reviewed file.now) }
 {
     let mut findings = Findings::new(alloc);
-    note_empty(&mut findings, file)?;
-    note_own_ports(&mut findings, file.port, &file.devices)?;
-    note_addresses(&mut findings, file.listen, &file.devices)?;
-    note_all_companions(&mut findings, &file.cues, &file.cues)?;
+    note_all(&mut findings, file)?;
     Ok(findings.into_vec())
 }
 

@@ -39,8 +39,8 @@ fn is_plain(bytes: &[u8]) -> bool
 }
 
 /// The bytes of a part as a text, if they are plain text: one byte at least, and each a sign of ASCII that is
-/// printed, no quote and no backslash. A show file that is written has them as `text`, and all others as `hex`; a cue
-/// sheet shows them so.
+/// printed, no quote and no backslash. A show file that is written of a store has them as `text`, and all others as
+/// `hex`.
 pub fn plain_text(bytes: &[u8]) -> Option<&str>
     ensures { option_copied result ≡ plain_of bytes.now }
 {

@@ -5,7 +5,7 @@ ghost use Rattle.cue_show_file.specs.Written as written;
 
 mod parts;
 
-use crate::file::{Companions, CueEntry, DeviceEntry, ShowFile};
+use crate::file::{Companions, CueEntry, DeviceEntry, Forms, ShowFile};
 use crate::marks::{Color, Flag};
 use crate::text::cue_text;
 use cue_show::{CueNo, DeviceNo, Parts, Show};
@@ -39,6 +39,7 @@ fn cue_entry(alloc: Global, number: CueNo, parts: &Parts) -> Result<CueEntry, Al
         flag: None,
         companions: Companions::of(Vec::new(alloc)),
         parts: parts.clone()?,
+        forms: Forms::of(Vec::new(alloc)),
     })
 }
 
@@ -76,8 +77,8 @@ pub fn of_show(alloc: Global, show: &Show) -> Result<ShowFile, AllocError>
 
 /// A text as TOML writes it, in the first form that needs no escape.
 #[derive(Clone, Copy)]
-struct Quoted<'a> {
-    text: &'a str,
+pub struct Quoted<'a> {
+    pub text: &'a str,
 }
 
 impl fmt::Display for Quoted<'_> {

@@ -28,12 +28,12 @@ use Rattle.cue_station.specs.declared.station.Station.{Station}
 use Rattle.cue_station.specs.Turns.{Turn}
 use Rattle.cue_station.specs.Alarms.{acknowledged_by, differs_by, failures_by, lasting, newest, nobody_by}
 use Rattle.cue_station.specs.Alarms.{stands_by, trouble_with}
-use Rattle.cue_station.specs.Asking.{followed, is_final, is_open, is_open_ask, is_press_sent, is_quiet, newest_of}
-use Rattle.cue_station.specs.Asking.{presses_of, sent_press}
+use Rattle.cue_station.specs.Asking.{followed, going_by, going_of, if_open, is_final, is_open, is_open_ask}
+use Rattle.cue_station.specs.Asking.{is_press_sent, is_quiet, newest_of, presses_of, sent_press}
 use Rattle.cue_station.specs.Choosing.{chosen_by_press, chosen_by_sending, chosen_number, chosen_of, found_in, grown}
 use Rattle.cue_station.specs.Choosing.{is_refused}
 use Rattle.cue_station.specs.Lighting.{footing_of, is_live_as, is_ready, is_number, may, may_by}
-use Rattle.cue_station.specs.Memory.{IsAfter, IsKept, if_open, is_beside, open_in, turn_of}
+use Rattle.cue_station.specs.Memory.{IsAfter, IsKept, is_beside, is_cancel, open_in, turn_of}
 use Rattle.cue_station.specs.Moving.{moved_by, place_by}
 use Rattle.cue_station.specs.Network.{relayed_with}
 use Rattle.cue_station.specs.Noting.{beside_after, footing_by, order_by, press_after, send_by, waits_by}
@@ -79,27 +79,38 @@ asked-kept r press beside all e n =
 
 -- ---- what a lit button rests on
 
-abbrev footing : ℕ → ℕ → Bool → Option ℕ → Bool → Bool → Footing
-footing now wall stands chosen quiet calm =
-    record { at = now; wall = wall; stands = stands; chosen = chosen; is_quiet = quiet; is_calm = calm }
+abbrev footing : ℕ → ℕ → Bool → Option ℕ → Option ℕ → Bool → Bool → Footing
+footing now wall stands chosen going quiet calm =
+    record {
+      at = now;
+      wall = wall;
+      stands = stands;
+      chosen = chosen;
+      going = going;
+      is_quiet = quiet;
+      is_calm = calm;
+    }
 
 pub footing-kept : (turns : List Turn) (n : Notes) (r : Option Reading) → r ≡ reading_of turns
-    → n.answered ≡ answered_of turns → n.choice ≡ chosen_of turns
+    → n.answered ≡ answered_of turns → n.choice ≡ chosen_of turns → n.press ≡ newest_of (presses_of turns)
     → open_in (reading_of turns) n.press n.beside ≡ filter (is_open (reading_of turns)) (presses_of turns)
     → (now wall : ℕ) → footing_by n r now wall ≡ footing_of turns now wall
-footing-kept turns n r er ea ec eo now wall =
+footing-kept turns n r er ea ec ep eo now wall =
     ap (λ o. footing_by n o now wall) er
-    ∙ ap (λ a. footing now wall (stands_by now a (reading_of turns)) (chosen_number n.choice)
+    ∙ ap (λ p. footing now wall (stands_by now n.answered (reading_of turns)) (chosen_number n.choice)
+    (going_by (if_open (reading_of turns) p)) (is_none (if_open (reading_of turns) n.press) && is_none n.beside)
+    (not (is_some_final (if_open (reading_of turns) n.press)) && not (is_some_final n.beside))) ep
+    ∙ ap (λ a. footing now wall (stands_by now a (reading_of turns)) (chosen_number n.choice) (going_of turns)
     (is_none (if_open (reading_of turns) n.press) && is_none n.beside)
     (not (is_some_final (if_open (reading_of turns) n.press)) && not (is_some_final n.beside))) ea
-    ∙ ap (λ c. footing now wall (stands_by now (answered_of turns) (reading_of turns)) (chosen_number c)
+    ∙ ap (λ c. footing now wall (stands_by now (answered_of turns) (reading_of turns)) (chosen_number c) (going_of turns)
     (is_none (if_open (reading_of turns) n.press) && is_none n.beside)
     (not (is_some_final (if_open (reading_of turns) n.press)) && not (is_some_final n.beside))) ec
     ∙ ap (λ q. footing now wall (stands_by now (answered_of turns) (reading_of turns)) (chosen_number (chosen_of turns))
-    q (not (is_some_final (if_open (reading_of turns) n.press)) && not (is_some_final n.beside)))
+    (going_of turns) q (not (is_some_final (if_open (reading_of turns) n.press)) && not (is_some_final n.beside)))
     (quiet-kept (reading_of turns) n.press n.beside (presses_of turns) eo)
     ∙ ap (λ q. footing now wall (stands_by now (answered_of turns) (reading_of turns)) (chosen_number (chosen_of turns))
-    (is_quiet turns) q)
+    (going_of turns) (is_quiet turns) q)
     (calm-kept (reading_of turns) n.press n.beside (presses_of turns) eo)
 
 -- whichever way the moments since which attempts are seen are told
@@ -121,7 +132,7 @@ pub may-kept : (turns : List Turn) (n : Notes) (r : Option Reading) (relay : Opt
     → may_by (footing_by n r now wall) (since_in seen) r b ≡ may turns now wall b
 may-kept turns n r relay seen views k now wall b =
     ap (λ f. may_by f (since_in seen) r b)
-    (footing-kept turns n r k.reading k.answered k.choice k.opened now wall)
+    (footing-kept turns n r k.reading k.answered k.choice k.press k.opened now wall)
     ∙ ap (λ o. may_by (footing_of turns now wall) (since_in seen) o b) k.reading
     ∙ may-since (footing_of turns now wall) (since_in seen) (λ q. seen_since q turns) k.since (reading_of turns) b
 
@@ -179,7 +190,7 @@ leaves_next past i b press beside k =
     record {
       one = one_open f p q h press beside k.one;
       final = ⊎_elim
-          (λ (e : is_final b ≡ true). inl e)
+          (λ (e : is_cancel b ≡ true). inl e)
           (λ (e : (if_open (reading_of past) press ≡ None) × (beside ≡ None)).
           inr (still_closed f p q h press e.0, gone_beside f q beside e.1))
           k.final;
@@ -194,14 +205,14 @@ heeded_leaves past s k i view b h o =
     let may = (both (is_offered view i.at b s.views.items) (may_by f (since_in s.seen.items) s.reading b) h).1 in
     let low = may_leaves f (since_in s.seen.items) s.reading b o may in
     subst (λ r. LeavesOne b (if_open r s.notes.press) s.notes.beside) k.reading
-    (leaves_one b f s.reading s.notes.press s.notes.beside k.beside refl refl low)
+    (leaves_one b f s.reading s.notes.press s.notes.beside k.beside refl refl refl low)
 
 -- the presses with the one that is sent
 sent_by_heard : (h : Heard) (at : ℕ) (send : Option Send) (r : Option Reading) (press beside : Option Pending)
     (all : List Pending) → open_in r press beside ≡ filter (is_open r) all → is_beside press beside ≡ true
     → ((view : ℕ) (b : Button) → h ≡ heard.Pressed view b → is_press_sent send ≡ true
     → LeavesOne b (if_open r press) beside)
-    → KeepsOpen r (sent_press h at send) press beside all
+    → KeepsOpen r (sent_press h at r send) press beside all
 sent_by_heard (heard.Copied c) at send r press beside all e k g = keeps_none r press beside all e k
 sent_by_heard (heard.Same begun) at send r press beside all e k g = keeps_none r press beside all e k
 sent_by_heard (heard.Unread why) at send r press beside all e k g = keeps_none r press beside all e k
@@ -312,15 +323,18 @@ step-after past s i m k makes =
     let f = next_of past i in
     let press = option_map f s.notes.press in
     let beside = if_open r (option_map f s.notes.beside) in
-    let sent = sent_press i.heard i.at m.step.send in
+    let sent = sent_press i.heard i.at r m.step.send in
     let keeps = sent_by_heard i.heard i.at m.step.send r press beside (map f (presses_of past)) h.opened h.beside_is
     (λ view b e g. leaves_next past i b s.notes.press s.notes.beside
     (sent_leaves past s k i makes.due (noted_now s i).next_ask m.step.send makes.send view b e g)) in
     let ep : m.notes.press ≡ press_after sent press =
-    ap (λ (x : Notes). x.press) makes.notes ∙ ap (press_after sent) n.press in
+    ap (λ (x : Notes). x.press) makes.notes
+    ∙ ap (λ x. press_after (sent_press i.heard i.at x m.step.send) (noted_now s i).press) n.reading
+    ∙ ap (press_after sent) n.press in
     let eb : m.notes.beside ≡ beside_after r sent press beside =
     ap (λ (x : Notes). x.beside) makes.notes
-    ∙ ap (λ x. beside_after x sent (noted_now s i).press (noted_now s i).beside) n.reading
+    ∙ ap (λ x. beside_after x (sent_press i.heard i.at x m.step.send) (noted_now s i).press (noted_now s i).beside)
+    n.reading
     ∙ ap₂ (λ p b. beside_after r sent p b) n.press n.beside in
     record {
       number = ap (λ (x : Notes). x.number) makes.notes ∙ ap (λ v. v + 1) k.number ∙ add-one (length past);

@@ -5,10 +5,12 @@ use Rattle.std.specs.List.{list_any}
 use Rattle.std.specs.Option.{option_to_list}
 use Rattle.std.proofs.lemmas.List.Folds.{list_any-append}
 use Rattle.cue_view.specs.declared.view.Trouble.{Trouble}
-use Rattle.cue_station.specs.declared.limits.TheConstants.{COPY_MS, OTHER_MS, STATUS_MS}
+use Rattle.cue_station.specs.declared.alarms.Facts.{Facts}
+use Rattle.cue_station.specs.declared.limits.TheConstants.{COPY_MS, OTHER_MS, SHOWN_MS, STATUS_MS}
 use Rattle.cue_view.specs.declared.view.Alarm.{Alarm}
 use Rattle.cue_view.specs.declared.view.Alarm.TheVariants as alarm
-use Rattle.cue_station.specs.Alarms.{failed_by, is_within, old_by, old_store, other_by, other_store, relay_stopped}
+use Rattle.cue_station.specs.Alarms.{doubt, either_by, failed_by, is_within, not_shown, not_shown_by, old_by}
+use Rattle.cue_station.specs.Alarms.{old_store, other_by, other_store, relay_stopped}
 use Rattle.cue_station.specs.Alarms.{silence}
 use Rattle.cue_station.specs.Alarms.{silence_by, silent_in, stopped_by}
 use Rattle.cue_station.specs.Network.{is_stopped}
@@ -39,6 +41,24 @@ pub none_other : (p : Alarm → Bool) → ((s : ℕ) → p (alarm.OtherStore s) 
     → list_any p (option_to_list (other_by since now)) ≡ false
 none_other p fails None now = refl
 none_other p fails (Some s) now = any_if p (alarm.OtherStore s) (fails s) (nat_le (s + OTHER_MS) now)
+
+none_not_shown : (p : Alarm → Bool) → ((s : ℕ) → p (alarm.NotShown s) ≡ false) → (since read : Option ℕ)
+    → list_any p (option_to_list (not_shown_by since read)) ≡ false
+none_not_shown p fails None read = refl
+none_not_shown p fails (Some s) None = refl
+none_not_shown p fails (Some s) (Some r) = any_if p (alarm.NotShown s) (fails s) (nat_le (s + SHOWN_MS) r)
+
+none_either : (p : Alarm → Bool) (one other : Option Alarm) → list_any p (option_to_list one) ≡ false
+    → list_any p (option_to_list other) ≡ false → list_any p (option_to_list (either_by one other)) ≡ false
+none_either p None other h k = k
+none_either p (Some a) other h k = h
+
+-- what answers at the port is not what the store shows
+pub none_doubt : (p : Alarm → Bool) → ((s : ℕ) → p (alarm.OtherStore s) ≡ false)
+    → ((s : ℕ) → p (alarm.NotShown s) ≡ false) → (f : Facts) → list_any p (option_to_list (doubt f)) ≡ false
+none_doubt p other unshown f =
+    none_either p (other_store f) (not_shown f) (none_other p other f.differs f.at)
+    (none_not_shown p unshown f.unshown f.read)
 
 pub none_stopped : (p : Alarm → Bool) → ((s : ℕ) → p (alarm.RelayStopped s) ≡ false) → (since : Option ℕ) (now : ℕ)
     → list_any p (option_to_list (stopped_by since now)) ≡ false
@@ -87,11 +107,11 @@ no_silence false (Some w) read = refl
 
 pub silence_said : SilenceIsSaid
 silence_said f back failures network =
-    first_only is_silence (option_to_list (silence f)) (option_to_list (other_store f))
+    first_only is_silence (option_to_list (silence f)) (option_to_list (doubt f))
     (option_to_list (relay_stopped f))
     (option_to_list (old_store f)) (map alarm.ClockPutBack back) (map alarm.Failed (failed_by f failures))
     (map alarm.DeviceSilent (silent_in network)) (not (is_within STATUS_MS f.at f.asked))
-    (silence_of (is_within STATUS_MS f.at f.asked) f.nobody f.asked) (none_other is_silence (λ s. refl) f.differs f.at)
+    (silence_of (is_within STATUS_MS f.at f.asked) f.nobody f.asked) (none_doubt is_silence (λ s. refl) (λ s. refl) f)
     (none_stopped is_silence (λ s. refl) f.stamped f.at)
     (no_silence (is_within COPY_MS f.at f.read) f.trouble f.read)
     (any_of_none is_silence alarm.ClockPutBack (λ x. refl) back)
@@ -114,10 +134,10 @@ age_of false (Some w) read = refl
 
 pub age_said : AgeIsSaid
 age_said f back failures network =
-    fourth_only is_age (option_to_list (silence f)) (option_to_list (other_store f)) (option_to_list (relay_stopped f))
+    fourth_only is_age (option_to_list (silence f)) (option_to_list (doubt f)) (option_to_list (relay_stopped f))
     (option_to_list (old_store f)) (map alarm.ClockPutBack back) (map alarm.Failed (failed_by f failures))
     (map alarm.DeviceSilent (silent_in network)) (not (is_within COPY_MS f.at f.read))
-    (no_age (is_within STATUS_MS f.at f.asked) f.nobody f.asked) (none_other is_age (λ s. refl) f.differs f.at)
+    (no_age (is_within STATUS_MS f.at f.asked) f.nobody f.asked) (none_doubt is_age (λ s. refl) (λ s. refl) f)
     (none_stopped is_age (λ s. refl) f.stamped f.at) (age_of (is_within COPY_MS f.at f.read) f.trouble f.read)
     (any_of_none is_age alarm.ClockPutBack (λ x. refl) back)
     (any_of_none is_age alarm.Failed (λ x. refl) (failed_by f failures))

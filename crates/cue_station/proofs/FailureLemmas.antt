@@ -27,7 +27,7 @@ use Rattle.cue_station.specs.declared.memory.Reading.{Reading}
 use Rattle.cue_station.specs.declared.memory.Seen.{Seen}
 use Rattle.cue_station.specs.Turns.{Turn}
 use Rattle.cue_station.specs.Alarms.{alarms_by, beside, failed_by, failed_of, failures_by, is_within, newest, old_by}
-use Rattle.cue_station.specs.Alarms.{old_store, other_store, put_back_in, relay_stopped, silence, silence_by, silent_in}
+use Rattle.cue_station.specs.Alarms.{doubt, old_store, put_back_in, relay_stopped, silence, silence_by, silent_in}
 use Rattle.cue_station.specs.Alarms.{unseen}
 use Rattle.cue_station.specs.Drawing.{alarms_of, facts_of, live_by}
 use Rattle.cue_station.specs.Following.{next_in}
@@ -38,7 +38,7 @@ use Rattle.cue_station.specs.Reading.{read_with, reading_of, seen_since}
 use Rattle.cue_station.specs.Showing.{since_in}
 use Rattle.cue_station.specs.Smaller.{failure_of, is_failure_of, of_attempt, smaller_of}
 use Rattle.cue_station.specs.Viewing.{LightsBy}
-use Rattle.cue_station.proofs.AlarmLemmas.{any_of_none, first_only, none_other, none_stopped}
+use Rattle.cue_station.proofs.AlarmLemmas.{any_of_none, first_only, none_doubt, none_stopped}
 
 -- ---- what is not there is not lit
 
@@ -93,8 +93,11 @@ standby_dark q next.Unknown = refl
 
 keys-dark : (q : ℕ) (f : Footing) (c : Copied) → is_lit (button.Seen q) (keys_of f c) ≡ false
 keys-dark q f c =
-    dark_two (button.Seen q) (keys_of_choice c.state.live f.chosen) (standby_of (next_in c))
-    (choice_dark q c.state.live f.chosen) (standby_dark q (next_in c))
+    dark_two (button.Seen q) (keys_of_choice c.state.live f.chosen ++ keys_of_choice c.state.live f.going)
+    (standby_of (next_in c))
+    (dark_two (button.Seen q) (keys_of_choice c.state.live f.chosen) (keys_of_choice c.state.live f.going)
+    (choice_dark q c.state.live f.chosen) (choice_dark q c.state.live f.going))
+    (standby_dark q (next_in c))
 
 -- ---- what is there for a failure
 
@@ -113,6 +116,7 @@ failures-there q [] = refl
 failures-there q (alarm.NobodyListens ∷ all) = failures-there q all
 failures-there q (alarm.Silent since ∷ all) = failures-there q all
 failures-there q (alarm.OtherStore since ∷ all) = failures-there q all
+failures-there q (alarm.NotShown since ∷ all) = failures-there q all
 failures-there q (alarm.RelayStopped since ∷ all) = failures-there q all
 failures-there q (alarm.Unread why ∷ all) = failures-there q all
 failures-there q (alarm.Old read ∷ all) = failures-there q all
@@ -164,11 +168,11 @@ no_failures q acknowledged failed failures e h =
 none_failed : (q : ℕ) (f : Facts) (back failures : List ℕ) (network : List Contacted) → f.failed ≡ None
     → failures ≡ [] → list_any (is_failure_of q) (alarms_by f back failures network) ≡ false
 none_failed q f back failures network e h =
-    first_only (is_failure_of q) (option_to_list (silence f)) (option_to_list (other_store f))
+    first_only (is_failure_of q) (option_to_list (silence f)) (option_to_list (doubt f))
     (option_to_list (relay_stopped f)) (option_to_list (old_store f)) (map alarm.ClockPutBack back)
     (map alarm.Failed (failed_by f failures)) (map alarm.DeviceSilent (silent_in network)) false
     (no_silence q (is_within STATUS_MS f.at f.asked) f.nobody f.asked)
-    (none_other (is_failure_of q) (λ s. refl) f.differs f.at)
+    (none_doubt (is_failure_of q) (λ s. refl) (λ s. refl) f)
     (none_stopped (is_failure_of q) (λ s. refl) f.stamped f.at)
     (no_age q (is_within COPY_MS f.at f.read) f.trouble f.read)
     (any_of_none (is_failure_of q) alarm.ClockPutBack (λ x. refl) back)

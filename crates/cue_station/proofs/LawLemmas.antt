@@ -4,6 +4,8 @@ use Rattle.std.proofs.Common.{map, filter}
 use Rattle.std.proofs.Common.{Option, None, Some, is_some, IsTrue, option_map, ◌⊎◌, inl, inr, ⊎_elim}
 use Rattle.std.specs.List.{list_any}
 use Rattle.cue_show.proofs.TestLemmas.{join}
+use Rattle.cue_core.specs.declared.event.Event.{Event}
+use Rattle.cue_exchange.specs.Answers.{is_preparing}
 use Rattle.cue_exchange.specs.Steps.{can_go_now}
 use Rattle.cue_exchange.specs.declared.attempt.Attempt.{Attempt}
 use Rattle.cue_desk.specs.declared.orders.DeskCommand.TheVariants as order
@@ -26,10 +28,10 @@ use Rattle.cue_view.specs.declared.view.LiveAttempt.{LiveAttempt}
 use Rattle.cue_view.specs.declared.view.Unsent.{Unsent}
 use Rattle.cue_view.specs.declared.view.View.{View}
 use Rattle.cue_station.specs.Turns.{Turn}
-use Rattle.cue_station.specs.Alarms.{alarms_by, asked_at, differs_since, failures_by, is_put_back, is_over_by}
-use Rattle.cue_station.specs.Alarms.{nobody_of, put_back_in}
+use Rattle.cue_station.specs.Alarms.{acknowledged_of, alarms_by, asked_at, differs_since, failed_of, failures_by}
+use Rattle.cue_station.specs.Alarms.{is_over_by, is_put_back, nobody_of, put_back_in}
 use Rattle.cue_station.specs.Alarms.{read_at, stands_by, trouble_of}
-use Rattle.cue_station.specs.Asking.{is_press_sent, said_by}
+use Rattle.cue_station.specs.Asking.{is_press_sent, is_tap, newest_of, presses_of, said_by, unshown_by, unshown_of}
 use Rattle.cue_station.specs.Choosing.{chosen_number}
 use Rattle.cue_station.specs.Drawing.{ShowsReading, alarms_of, facts_of, live_by}
 use Rattle.cue_station.specs.Laws.{Keeps, LitIsSo, PressIsSo, StatusIsAsked}
@@ -42,7 +44,7 @@ use Rattle.cue_station.specs.Offering.{is_offered, is_recent, kept_of}
 use Rattle.cue_station.specs.Pacing.{is_overdue}
 use Rattle.cue_station.specs.Pressing.{is_heeded, order_of, refusal_by, unsent_by, unsent_of}
 use Rattle.cue_station.specs.Reading.{answered_of, reading_of, seen_since}
-use Rattle.cue_station.specs.Showing.{given_in, given_since, is_in_time, left_of, shown_live, since_in}
+use Rattle.cue_station.specs.Showing.{given_in, given_since, is_in_time, is_passed, left_of, shown_live, since_in}
 use Rattle.cue_station.specs.Stepping.{Makes, is_heeded_by, kept_with, noted_now, reading_now, refusal_now}
 use Rattle.cue_station.specs.Stepping.{unsent_now}
 use Rattle.cue_station.specs.Viewing.{alarms_in, facts_by, stamped_at}
@@ -54,8 +56,8 @@ use Rattle.cue_station.proofs.SentLemmas.{sending, sends_status}
 
 -- ---- what is drawn of a copy, whichever way the moments are told
 
-abbrev shown_by : Bool → Option ℕ → Option ℕ → ℕ → ℕ → Attempt → LiveAttempt
-shown_by stands since given now wall a =
+abbrev shown_by : Bool → Option ℕ → Option ℕ → List Event → ℕ → ℕ → Attempt → LiveAttempt
+shown_by stands since given events now wall a =
     record {
       seq = a.seq;
       cue = a.cue;
@@ -64,16 +66,18 @@ shown_by stands since given now wall a =
       ready = stands && (can_go_now a && is_in_time since now wall a);
       left = left_of since now wall a;
       given = given;
+      passed = is_preparing a.stage && is_passed a.seq events;
     }
 
 same_live : (b c : Bool) → b ≡ c → (s t g h : ℕ → Option ℕ) → ((q : ℕ) → s q ≡ t q) → ((q : ℕ) → g q ≡ h q)
-    → (now wall : ℕ) (live : List Attempt) → shown_live b s g now wall live ≡ shown_live c t h now wall live
-same_live b c e s t g h es eg now wall [] = refl
-same_live b c e s t g h es eg now wall (a ∷ live) =
+    → (events : List Event) (now wall : ℕ) (live : List Attempt)
+    → shown_live b s g events now wall live ≡ shown_live c t h events now wall live
+same_live b c e s t g h es eg events now wall [] = refl
+same_live b c e s t g h es eg events now wall (a ∷ live) =
     ap₂ (λ x xs. x ∷ xs)
-    (ap (λ v. shown_by v (s a.seq) (g a.seq) now wall a) e
-    ∙ ap₂ (λ v w. shown_by c v w now wall a) (es a.seq) (eg a.seq))
-    (same_live b c e s t g h es eg now wall live)
+    (ap (λ v. shown_by v (s a.seq) (g a.seq) events now wall a) e
+    ∙ ap₂ (λ v w. shown_by c v w events now wall a) (es a.seq) (eg a.seq))
+    (same_live b c e s t g h es eg events now wall live)
 
 same_reading : (b c : Bool) → b ≡ c → (s t g h : ℕ → Option ℕ) → ((q : ℕ) → s q ≡ t q) → ((q : ℕ) → g q ≡ h q)
     → (now wall : ℕ) (v : View) (r : Option Reading) → ShowsReading b s g now wall v r
@@ -86,7 +90,7 @@ same_reading b c e s t g h es eg now wall v (Some r) k =
       stack = k.stack;
       last = k.last;
       past = k.past;
-      live = k.live ∙ same_live b c e s t g h es eg now wall r.copy.state.live;
+      live = k.live ∙ same_live b c e s t g h es eg r.copy.events.items now wall r.copy.state.live;
     }
 
 -- ---- the alarms
@@ -97,8 +101,9 @@ same_put_back s t e now wall [] = refl
 same_put_back s t e now wall (a ∷ live) =
     ap₂ (λ b xs. cond b (a ∷ xs) xs) (ap (λ o. is_over_by o now wall a) (e a.seq)) (same_put_back s t e now wall live)
 
-abbrev facts : ℕ → Option ℕ → Bool → Option ℕ → Option ℕ → Option ℕ → Option Trouble → Option ℕ → List ℕ → Facts
-facts now asked nobody differs stamped read trouble failed acknowledged =
+abbrev facts : ℕ → Option ℕ → Bool → Option ℕ → Option ℕ → Option ℕ → Option Trouble → Option ℕ → List ℕ → Option ℕ
+    → Facts
+facts now asked nobody differs stamped read trouble failed acknowledged unshown =
     record {
       at = now;
       asked = asked;
@@ -109,20 +114,26 @@ facts now asked nobody differs stamped read trouble failed acknowledged =
       trouble = trouble;
       failed = failed;
       acknowledged = acknowledged;
+      unshown = unshown;
     }
 
 facts-kept : (turns : List Turn) (n : Notes) (r : Option Reading) (relay : Option Relayed) (seen : List Seen)
     (views : List Shown) → IsKept turns n r relay seen views → (now : ℕ)
     → facts_by n r relay now ≡ facts_of turns now
 facts-kept turns n r relay seen views k now =
-    ap₂ (λ a b. facts now (asked_at a) b n.differs (stamped_at relay) (read_at r) n.trouble n.failed n.acknowledged)
+    ap₂ (λ a b. facts now (asked_at a) b n.differs (stamped_at relay) (read_at r) n.trouble n.failed n.acknowledged
+    (unshown_by n.press))
     k.answered k.nobody
     ∙ ap₂ (λ a b. facts now (asked_at (answered_of turns)) (nobody_of turns) a (stamped_at b) (read_at r) n.trouble
-    n.failed n.acknowledged) k.differs k.relay
+    n.failed n.acknowledged (unshown_by n.press)) k.differs k.relay
     ∙ ap₂ (λ a b. facts now (asked_at (answered_of turns)) (nobody_of turns) (differs_since turns)
-    (stamped_at (relayed_of turns)) (read_at a) b n.failed n.acknowledged) k.reading k.trouble
+    (stamped_at (relayed_of turns)) (read_at a) b n.failed n.acknowledged (unshown_by n.press)) k.reading k.trouble
     ∙ ap₂ (λ a b. facts now (asked_at (answered_of turns)) (nobody_of turns) (differs_since turns)
-    (stamped_at (relayed_of turns)) (read_at (reading_of turns)) (trouble_of turns) a b) k.failed k.acknowledged
+    (stamped_at (relayed_of turns)) (read_at (reading_of turns)) (trouble_of turns) a b (unshown_by n.press)) k.failed
+    k.acknowledged
+    ∙ ap (λ p. facts now (asked_at (answered_of turns)) (nobody_of turns) (differs_since turns)
+    (stamped_at (relayed_of turns)) (read_at (reading_of turns)) (trouble_of turns) (failed_of turns)
+    (acknowledged_of turns) (unshown_by p)) k.press
 
 alarms-kept : (turns : List Turn) (n : Notes) (r : Option Reading) (relay : Option Relayed) (seen : List Seen)
     (views : List Shown) → IsKept turns n r relay seen views → (now wall : ℕ)
@@ -199,10 +210,14 @@ unsent-same f g e heard.Tick = refl
 unsent-kept : (past : List Turn) (s : Station) → IsAfter past s → (i : Input) → unsent_now s i ≡ unsent_of past i
 unsent-kept past s k i =
     unsent-same (refusal_now s i)
-    (λ view b. refusal_by (list_any (is_recent view i.at) (kept_of past)) (is_offered view i.at b (kept_of past))
+    (λ view b. refusal_by (is_tap i.at b (newest_of (presses_of past)))
+    (list_any (is_recent view i.at) (kept_of past)) (is_offered view i.at b (kept_of past))
     (may past i.at i.wall b))
     (λ view b.
-    ap₂ (λ v m. refusal_by (list_any (is_recent view i.at) v) (is_offered view i.at b v) m) k.views
+    ap (λ p. refusal_by (is_tap i.at b p) (list_any (is_recent view i.at) s.views.items)
+    (is_offered view i.at b s.views.items)
+    (may_by (footing_by s.notes s.reading i.at i.wall) (since_in s.seen.items) s.reading b)) k.press
+    ∙ ap₂ (λ v m. refusal_by (is_tap i.at b (newest_of (presses_of past))) (list_any (is_recent view i.at) v) (is_offered view i.at b v) m) k.views
     (may-kept past s.notes s.reading s.relay s.seen.items s.views.items k i.at i.wall b)) i.heard
 
 press-kept : (past : List Turn) (s : Station) (i : Input) (m : Made) → IsAfter past s → Makes s i m

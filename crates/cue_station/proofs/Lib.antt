@@ -4,6 +4,7 @@ mod PressLemmas
 mod SeeingLemmas
 mod ButtonLemmas
 mod LitLemmas
+mod TimeLemmas
 mod FailureLemmas
 mod PacingLemmas
 mod OpenLemmas

@@ -73,7 +73,7 @@ passes-lit p b (x ∷ xs) others h k =
 
 -- ---- the great buttons are there
 
-live_found : (q : ℕ) (test : Attempt → Bool) (o : Option Attempt) → IsTrue (option_map_or test o false)
+pub live_found : (q : ℕ) (test : Attempt → Bool) (o : Option Attempt) → IsTrue (option_map_or test o false)
     → (a : Attempt) × (o ≡ Some a) × IsTrue (test a)
 live_found q test None h = (cc)
 live_found q test (Some a) h = (a, refl, h)
@@ -138,20 +138,41 @@ last_two x y z w h =
     let m = both x (y && z) k.0 in
     ((both y z m.1).1, k.1)
 
+abbrev both_keys : Footing → Copied → List Button
+both_keys f c = keys_of_choice c.state.live f.chosen ++ keys_of_choice c.state.live f.going
+
+-- CANCEL of the attempt that is chosen, or of the one of an open GO
+cancel_there : (f : Footing) (c : Copied) (cue : List ℕ) (q : ℕ)
+    → IsTrue ((f.is_calm && is_number q f.chosen) || is_number q f.going)
+    → IsTrue (is_live_as q (λ a. same_text a.cue cue && is_preparing a.stage) c.state.live)
+    → IsTrue (is_lit (button.Cancel cue q) (both_keys f c))
+cancel_there f c cue q h l =
+    let calm = f.is_calm && is_number q f.chosen in
+    ⊎_elim
+    (λ (e : calm ≡ true).
+    lit_front (button.Cancel cue q) (keys_of_choice c.state.live f.chosen) (keys_of_choice c.state.live f.going)
+    (choice_lit (button.Cancel cue q) c.state.live cue q f.chosen (λ a. is_preparing a.stage)
+    (both f.is_calm (is_number q f.chosen) e).1 l (cancel_lit cue q)))
+    (λ (e : calm ≡ false).
+    lit_back (button.Cancel cue q) (keys_of_choice c.state.live f.chosen) (keys_of_choice c.state.live f.going)
+    (choice_lit (button.Cancel cue q) c.state.live cue q f.going (λ a. is_preparing a.stage)
+    (ap (λ b. b || is_number q f.going) (sym e) ∙ h) l (cancel_lit cue q)))
+    (cases calm)
+
 pub keys-there : (f : Footing) (since : ℕ → Option ℕ) (c : Copied) (b : Button) → IsTrue (is_key b)
     → IsTrue (may_in f since c b) → IsTrue (is_lit b (keys_of f c))
 keys-there f since c (button.Go cue q) k h =
     let e = last_two f.stands f.is_quiet (is_number q f.chosen) _ h in
-    lit_front (button.Go cue q) (keys_of_choice c.state.live f.chosen) (standby_of (next_in c))
+    lit_front (button.Go cue q) (both_keys f c) (standby_of (next_in c))
+    (lit_front (button.Go cue q) (keys_of_choice c.state.live f.chosen) (keys_of_choice c.state.live f.going)
     (choice_lit (button.Go cue q) c.state.live cue q f.chosen (λ a. is_ready (since q) f.at f.wall a) e.0 e.1
-    (go_lit cue q))
+    (go_lit cue q)))
 keys-there f since c (button.Cancel cue q) k h =
-    let e = last_two f.stands f.is_calm (is_number q f.chosen) _ h in
-    lit_front (button.Cancel cue q) (keys_of_choice c.state.live f.chosen) (standby_of (next_in c))
-    (choice_lit (button.Cancel cue q) c.state.live cue q f.chosen (λ a. is_preparing a.stage) e.0 e.1
-    (cancel_lit cue q))
+    let e = both (f.stands && ((f.is_calm && is_number q f.chosen) || is_number q f.going)) _ h in
+    lit_front (button.Cancel cue q) (both_keys f c) (standby_of (next_in c))
+    (cancel_there f c cue q (both f.stands _ e.0).1 e.1)
 keys-there f since c (button.Standby cue) k h =
-    lit_back (button.Standby cue) (keys_of_choice c.state.live f.chosen) (standby_of (next_in c))
+    lit_back (button.Standby cue) (both_keys f c) (standby_of (next_in c))
     (standby_lit cue (next_in c) (both (is_next cue (next_in c)) _ (both (f.stands && f.is_quiet) _ h).1).0)
 keys-there f since c (button.Release q d) k h = (cc)
 keys-there f since c (button.MoveTo cue) k h = (cc)

@@ -5,10 +5,11 @@ use Rattle.std.specs.Prelude.{All, IfSome}
 use Rattle.std.specs.Option.{option_to_list}
 use Rattle.std.proofs.lemmas.List.Elements.{All-cons, All-nil, All-weaker}
 use Rattle.cue_view.specs.declared.view.Trouble.{Trouble}
-use Rattle.cue_station.specs.declared.limits.TheConstants.{COPY_MS, OTHER_MS, STATUS_MS}
+use Rattle.cue_station.specs.declared.limits.TheConstants.{COPY_MS, OTHER_MS, SHOWN_MS, STATUS_MS}
 use Rattle.cue_view.specs.declared.view.Alarm.{Alarm}
 use Rattle.cue_view.specs.declared.view.Alarm.TheVariants as alarm
-use Rattle.cue_station.specs.Alarms.{failed_by, is_within, old_by, other_by, silence_by, silent_in, stopped_by}
+use Rattle.cue_station.specs.Alarms.{either_by, failed_by, is_within, not_shown, not_shown_by, old_by, other_by}
+use Rattle.cue_station.specs.Alarms.{other_store, silence_by, silent_in, stopped_by}
 use Rattle.cue_station.specs.Network.{is_stopped}
 use Rattle.cue_station.specs.Warning.{IsLoudestFirst, LoudestFirst, rank_of}
 
@@ -66,6 +67,18 @@ rank_other None now = tt
 rank_other (Some s) now =
     rank_if (λ a. (2 ≤ rank_of a) × (rank_of a ≤ 3)) (alarm.OtherStore s) (lit≤ tt, lit≤ tt) (nat_le (s + OTHER_MS) now)
 
+rank_not_shown : (since read : Option ℕ)
+    → IfSome (not_shown_by since read) (λ a. (2 ≤ rank_of a) × (rank_of a ≤ 3))
+rank_not_shown None read = tt
+rank_not_shown (Some s) None = tt
+rank_not_shown (Some s) (Some r) =
+    rank_if (λ a. (2 ≤ rank_of a) × (rank_of a ≤ 3)) (alarm.NotShown s) (lit≤ tt, lit≤ tt) (nat_le (s + SHOWN_MS) r)
+
+rank_either : (P : Alarm → Type 0) (one other : Option Alarm) → IfSome one P → IfSome other P
+    → IfSome (either_by one other) P
+rank_either P None other h k = k
+rank_either P (Some a) other h k = h
+
 rank_stopped : (since : Option ℕ) (now : ℕ) → IfSome (stopped_by since now) (λ a. (3 ≤ rank_of a) × (rank_of a ≤ 4))
 rank_stopped None now = tt
 rank_stopped (Some s) now =
@@ -81,7 +94,9 @@ pub in_order : LoudestFirst
 in_order f back failures network =
     let all : Above 0 _ =
     above_option 0 2 _ _ (lit≤ tt) (rank_silence (is_within STATUS_MS f.at f.asked) f.nobody f.asked)
-    (above_option 2 3 _ _ (lit≤ tt) (rank_other f.differs f.at)
+    (above_option 2 3 _ _ (lit≤ tt)
+    (rank_either (λ a. (2 ≤ rank_of a) × (rank_of a ≤ 3)) (other_store f) (not_shown f) (rank_other f.differs f.at)
+    (rank_not_shown f.unshown f.read))
     (above_option 3 4 _ _ (lit≤ tt) (rank_stopped f.stamped f.at)
     (above_option 4 6 _ _ (lit≤ tt) (rank_old (is_within COPY_MS f.at f.read) f.trouble f.read)
     (above_map 6 alarm.ClockPutBack (λ x. refl) back _

@@ -1,7 +1,7 @@
 -- What is open stays so only as long as nothing closes it; and what is kept beside a new press.
-use Rattle.std.proofs.Common.{◌≡◌, refl, sym, ap, ◌∙◌, subst, ℕ, ◌≤◌, Bool, true, false, not, ◌&&◌, cond, max, List}
+use Rattle.std.proofs.Common.{◌≡◌, refl, sym, ap, ◌∙◌, subst, ℕ, ◌≤◌, Bool, true, false, not, ◌&&◌, ◌||◌, cond, max, List}
 use Rattle.std.proofs.Common.{[], ◌∷◌, ◌++◌, map}
-use Rattle.std.proofs.Common.{Option, None, Some, is_none, nat_le, IsTrue, arith, inl, inr, ◌⊎◌, ⊎_elim, option_map}
+use Rattle.std.proofs.Common.{Option, None, Some, is_none, is_some, nat_le, IsTrue, arith, inl, inr, ◌⊎◌, ⊎_elim, option_map}
 use Rattle.std.proofs.Common.{option_to_list}
 use Rattle.std.proofs.lemmas.Bool.{leb-true, le-leb}
 use Rattle.cue_show.proofs.TestLemmas.{both, cases, join, not_so}
@@ -16,8 +16,10 @@ use Rattle.cue_station.specs.declared.memory.Pending.{Pending}
 use Rattle.cue_station.specs.declared.memory.Reading.{Reading}
 use Rattle.cue_station.specs.declared.memory.Word.{Word}
 use Rattle.cue_view.specs.declared.view.Became.{Became}
-use Rattle.cue_station.specs.Asking.{first_of, followed, is_final, is_open, is_read_after, newest_of}
-use Rattle.cue_station.specs.Memory.{if_open, is_beside, only}
+use Rattle.cue_station.specs.Asking.{first_of, followed, going_by, if_open, is_final, is_open, is_read_after}
+use Rattle.cue_station.specs.Asking.{newest_of, only}
+use Rattle.cue_station.specs.Lighting.{is_number}
+use Rattle.cue_station.specs.Memory.{is_beside, is_cancel}
 use Rattle.cue_station.specs.Noting.{press_after}
 use Rattle.cue_station.specs.Opening.{is_some_final}
 use Rattle.cue_station.specs.Reading.{read_with}
@@ -86,7 +88,7 @@ was_open h at a r p k =
 
 -- ---- a press beside the newest one
 
-beside_only : (q : Pending → Bool) (f : Pending → Pending) → ((x : Pending) → is_final (f x).button ≡ is_final x.button)
+beside_only : (q : Pending → Bool) (f : Pending → Pending) → ((x : Pending) → is_cancel (f x).button ≡ is_cancel x.button)
     → (press : Option Pending) (y : Pending) → is_beside press (Some y) ≡ true → (b : Bool)
     → is_beside (option_map f press) (cond b (Some (f y)) None) ≡ true
 beside_only q f same press y h false = refl
@@ -95,16 +97,16 @@ beside_only q f same (Some x) y h true = same x ∙ h
 
 -- the press beside the newest one, once both were followed
 pub beside_followed : (q : Pending → Bool) (f : Pending → Pending)
-    → ((x : Pending) → is_final (f x).button ≡ is_final x.button) → (press beside : Option Pending)
+    → ((x : Pending) → is_cancel (f x).button ≡ is_cancel x.button) → (press beside : Option Pending)
     → is_beside press beside ≡ true → is_beside (option_map f press) (only q (option_map f beside)) ≡ true
 beside_followed q f same press None h = refl
 beside_followed q f same press (Some y) h = beside_only q f same press y h (q (f y))
 
 -- ---- what a press leaves open
 
--- no press is open, or this is a CANCEL and no go and no cancel is
+-- no press is open, or this is a CANCEL, and no go and no cancel is open or the last press is an open GO
 abbrev pub leaves : Footing → Button → Bool
-leaves f (button.Cancel c q) = f.is_calm
+leaves f (button.Cancel c q) = f.is_calm || is_some f.going
 leaves f (button.Go c q) = f.is_quiet
 leaves f (button.Standby c) = f.is_quiet
 leaves f (button.Release q d) = f.is_quiet
@@ -112,10 +114,10 @@ leaves f (button.MoveTo c) = f.is_quiet
 leaves f (button.Choose q) = f.is_quiet
 leaves f (button.Seen q) = f.is_quiet
 
--- none of the two is open, or the button is final and one of them is not
+-- none of the two is open, or the button is a cancel and one of them is not
 pub record LeavesOne (b : Button) (press beside : Option Pending) : Type 0 where
   pub one : (press ≡ None) ⊎ (beside ≡ None)
-  pub final : (is_final b ≡ true) ⊎ ((press ≡ None) × (beside ≡ None))
+  pub final : (is_cancel b ≡ true) ⊎ ((press ≡ None) × (beside ≡ None))
 
 none_is : (o : Option Pending) → IsTrue (is_none o) → o ≡ None
 none_is None h = refl
@@ -135,6 +137,15 @@ calm_closed : (x : Pending) (b : Bool) → is_final x.button ≡ true
 calm_closed x true f h = absurd (cc (f, not_so (is_final x.button) h))
 calm_closed x false f h = refl
 
+cancel_final : (b : Button) → is_cancel b ≡ true → is_final b ≡ true
+cancel_final (button.Cancel c q) h = refl
+cancel_final (button.Go c q) h = refl
+cancel_final (button.Standby c) h = (cc)
+cancel_final (button.Release q d) h = (cc)
+cancel_final (button.MoveTo c) h = (cc)
+cancel_final (button.Choose q) h = (cc)
+cancel_final (button.Seen q) h = (cc)
+
 leaves_calm : (c : List ℕ) (q : ℕ) (r : Option Reading) (press beside : Option Pending) → is_beside press beside ≡ true
     → IsTrue (not (is_some_final (if_open r press)) && not (is_some_final beside))
     → LeavesOne (button.Cancel c q) (if_open r press) beside
@@ -142,25 +153,60 @@ leaves_calm c q r press None k h = record { one = inr refl; final = inl refl }
 leaves_calm c q r None (Some y) k h = (cc)
 leaves_calm c q r (Some x) (Some y) k h =
     let e = both (not (is_some_final (if_open r (Some x)))) (not (is_some_final (Some y))) h in
-    record { one = inl (calm_closed x (is_open r x) k e.0); final = inl refl }
+    record { one = inl (calm_closed x (is_open r x) (cancel_final x.button k) e.0); final = inl refl }
+
+-- the last press is an open GO, so nothing is open beside it
+go_alone : (b : Button) (t : Bool) (p : Pending) → is_cancel b ≡ true → p.button ≡ b
+    → going_by (cond t (Some p) None) ≡ None
+go_alone (button.Cancel c q) true p h e = rw e refl
+go_alone (button.Cancel c q) false p h e = refl
+go_alone (button.Go c q) t p h e = (cc)
+go_alone (button.Standby c) t p h e = (cc)
+go_alone (button.Release q d) t p h e = (cc)
+go_alone (button.MoveTo c) t p h e = (cc)
+go_alone (button.Choose q) t p h e = (cc)
+go_alone (button.Seen q) t p h e = (cc)
+
+leaves_going : (c : List ℕ) (q : ℕ) (r : Option Reading) (press beside : Option Pending) → is_beside press beside ≡ true
+    → IsTrue (is_some (going_by (if_open r press))) → LeavesOne (button.Cancel c q) (if_open r press) beside
+leaves_going c q r press None k h = record { one = inr refl; final = inl refl }
+leaves_going c q r None (Some y) k h = (cc)
+leaves_going c q r (Some x) (Some y) k h = absurd (cc (h, go_alone x.button (is_open r x) x k refl))
+
+leaves_cancel : (c : List ℕ) (q : ℕ) (r : Option Reading) (press beside : Option Pending)
+    → is_beside press beside ≡ true
+    → IsTrue ((not (is_some_final (if_open r press)) && not (is_some_final beside))
+    || is_some (going_by (if_open r press)))
+    → LeavesOne (button.Cancel c q) (if_open r press) beside
+leaves_cancel c q r press beside k h =
+    let calm = not (is_some_final (if_open r press)) && not (is_some_final beside) in
+    ⊎_elim
+    (λ (e : calm ≡ true). leaves_calm c q r press beside k e)
+    (λ (e : calm ≡ false).
+    leaves_going c q r press beside k (ap (λ b. b || is_some (going_by (if_open r press))) (sym e) ∙ h))
+    (cases calm)
 
 pub leaves_one : (b : Button) (f : Footing) (r : Option Reading) (press beside : Option Pending)
     → is_beside press beside ≡ true
     → f.is_quiet ≡ (is_none (if_open r press) && is_none beside)
     → f.is_calm ≡ (not (is_some_final (if_open r press)) && not (is_some_final beside))
+    → f.going ≡ going_by (if_open r press)
     → IsTrue (leaves f b) → LeavesOne b (if_open r press) beside
-leaves_one (button.Cancel c q) f r press beside k quiet calm h = leaves_calm c q r press beside k (sym calm ∙ h)
-leaves_one (button.Go c q) f r press beside k quiet calm h =
+leaves_one (button.Cancel c q) f r press beside k quiet calm going h =
+    leaves_cancel c q r press beside k
+    (ap (λ b. b || is_some (going_by (if_open r press))) (sym calm)
+    ∙ ap (λ o. f.is_calm || is_some o) (sym going) ∙ h)
+leaves_one (button.Go c q) f r press beside k quiet calm going h =
     leaves_quiet (button.Go c q) (if_open r press) beside (sym quiet ∙ h)
-leaves_one (button.Standby c) f r press beside k quiet calm h =
+leaves_one (button.Standby c) f r press beside k quiet calm going h =
     leaves_quiet (button.Standby c) (if_open r press) beside (sym quiet ∙ h)
-leaves_one (button.Release q d) f r press beside k quiet calm h =
+leaves_one (button.Release q d) f r press beside k quiet calm going h =
     leaves_quiet (button.Release q d) (if_open r press) beside (sym quiet ∙ h)
-leaves_one (button.MoveTo c) f r press beside k quiet calm h =
+leaves_one (button.MoveTo c) f r press beside k quiet calm going h =
     leaves_quiet (button.MoveTo c) (if_open r press) beside (sym quiet ∙ h)
-leaves_one (button.Choose q) f r press beside k quiet calm h =
+leaves_one (button.Choose q) f r press beside k quiet calm going h =
     leaves_quiet (button.Choose q) (if_open r press) beside (sym quiet ∙ h)
-leaves_one (button.Seen q) f r press beside k quiet calm h =
+leaves_one (button.Seen q) f r press beside k quiet calm going h =
     leaves_quiet (button.Seen q) (if_open r press) beside (sym quiet ∙ h)
 
 -- ---- a new press

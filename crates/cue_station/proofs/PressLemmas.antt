@@ -5,8 +5,7 @@ use Rattle.std.proofs.Common.{Option, None, Some, is_none, filter, nat_eq}
 use Rattle.std.specs.List.{list_any, list_all}
 use Rattle.std.specs.Option.{option_map, option_to_list}
 use Rattle.cue_station.specs.declared.memory.Pending.{Pending}
-use Rattle.cue_station.specs.Asking.{is_final, newest_of}
-use Rattle.cue_station.specs.Memory.{only}
+use Rattle.cue_station.specs.Asking.{is_final, newest_of, only}
 use Rattle.cue_station.specs.Opening.{has_ask, is_some_final}
 
 -- ---- tests over a filter

@@ -11,7 +11,7 @@ use Rattle.cue_view.specs.declared.view.Contacted.{Contacted}
 use Rattle.cue_station.specs.declared.alarms.Facts.{Facts}
 use Rattle.cue_station.specs.declared.memory.Reading.{Reading}
 use Rattle.cue_station.specs.Turns.{Turn}
-use Rattle.cue_station.specs.Alarms.{alarms_by, beside, failed_by, failures_by, is_acknowledged, old_store, other_store}
+use Rattle.cue_station.specs.Alarms.{alarms_by, beside, doubt, failed_by, failures_by, is_acknowledged, old_store}
 use Rattle.cue_station.specs.Alarms.{put_back_in, relay_stopped, silence, silent_in, unseen}
 use Rattle.cue_station.specs.Alarms.{acknowledged_of}
 use Rattle.cue_station.specs.Drawing.{facts_of, live_by}
@@ -72,7 +72,7 @@ failure_said f back failures network q there fresh =
     let clocks = map alarm.ClockPutBack back in
     let old = option_to_list (old_store f) in
     let stopped = option_to_list (relay_stopped f) in
-    let other = option_to_list (other_store f) in
+    let other = option_to_list (doubt f) in
     any_after p (option_to_list (silence f)) (other ++ (stopped ++ (old ++ (clocks ++ (failed ++ silent)))))
     (any_after p other (stopped ++ (old ++ (clocks ++ (failed ++ silent))))
     (any_after p stopped (old ++ (clocks ++ (failed ++ silent)))

@@ -1,7 +1,7 @@
 -- What is sent, and what that leaves open.
-use Rattle.std.proofs.Common.{◌≡◌, refl, sym, ap, ◌∙◌, ℕ, Bool, true, false, not, ◌&&◌, cond, List, [], ◌∷◌, ◌++◌}
+use Rattle.std.proofs.Common.{◌≡◌, refl, sym, ap, ◌∙◌, ℕ, Bool, true, false, not, ◌&&◌, ◌||◌, cond, List, [], ◌∷◌, ◌++◌}
 use Rattle.std.proofs.Common.{Option, None, Some, is_some, filter, IsTrue, IsSome, inl, inr, ◌⊎◌, ⊎_elim}
-use Rattle.cue_show.proofs.TestLemmas.{both}
+use Rattle.cue_show.proofs.TestLemmas.{both, cases, or_left, or_right}
 use Rattle.cue_desk.specs.declared.orders.DeskCommand.{DeskCommand}
 use Rattle.cue_desk.specs.declared.orders.DeskCommand.TheVariants as order
 use Rattle.cue_view.specs.declared.button.Button.{Button}
@@ -11,9 +11,9 @@ use Rattle.cue_station.specs.declared.heard.Send.{Send}
 use Rattle.cue_station.specs.declared.lighting.Footing.{Footing}
 use Rattle.cue_station.specs.declared.memory.Pending.{Pending}
 use Rattle.cue_station.specs.declared.memory.Reading.{Reading}
-use Rattle.cue_station.specs.Asking.{first_of, is_final, is_open, is_press_sent, sent_press}
-use Rattle.cue_station.specs.Lighting.{may_by}
-use Rattle.cue_station.specs.Memory.{if_open, is_beside, open_in}
+use Rattle.cue_station.specs.Asking.{first_of, fresh, if_open, is_open, is_press_sent, newest_in, sent_press}
+use Rattle.cue_station.specs.Lighting.{is_number, may_by}
+use Rattle.cue_station.specs.Memory.{is_beside, is_cancel, open_in}
 use Rattle.cue_station.specs.Noting.{beside_after, press_after, send_by}
 use Rattle.cue_station.specs.Pressing.{order_of}
 use Rattle.cue_station.specs.Reading.{is_status}
@@ -25,12 +25,28 @@ use Rattle.cue_station.proofs.OpenLemmas.{first_two, leaves}
 first_three : (x y z w : Bool) → IsTrue ((x && (y && z)) && w) → IsTrue y
 first_three x y z w h = (both y z (both x (y && z) (both (x && (y && z)) w h).0).1).0
 
+some_number : (q : ℕ) (o : Option ℕ) → IsTrue (is_number q o) → IsTrue (is_some o)
+some_number q None h = (cc)
+some_number q (Some p) h = refl
+
+-- a CANCEL of what is chosen, or of an open GO
+cancel_leaves : (f : Footing) (q : ℕ) → IsTrue ((f.is_calm && is_number q f.chosen) || is_number q f.going)
+    → IsTrue (f.is_calm || is_some f.going)
+cancel_leaves f q h =
+    let calm = f.is_calm && is_number q f.chosen in
+    ⊎_elim
+    (λ (e : calm ≡ true). or_left f.is_calm (is_some f.going) (both f.is_calm (is_number q f.chosen) e).0)
+    (λ (e : calm ≡ false). or_right f.is_calm (is_some f.going)
+    (some_number q f.going (ap (λ b. b || is_number q f.going) (sym e) ∙ h)))
+    (cases calm)
+
 -- a button that sends something leaves at most one press open
 pub may_leaves : (f : Footing) (since : ℕ → Option ℕ) (r : Option Reading) (b : Button) → IsSome (order_of b)
     → IsTrue (may_by f since r b) → IsTrue (leaves f b)
 may_leaves f since None b o h = (cc)
 may_leaves f since (Some r) (button.Go c q) o h = (first_three f.stands f.is_quiet _ _ h)
-may_leaves f since (Some r) (button.Cancel c q) o h = (first_three f.stands f.is_calm _ _ h)
+may_leaves f since (Some r) (button.Cancel c q) o h =
+    cancel_leaves f q (both f.stands _ (both (f.stands && ((f.is_calm && is_number q f.chosen) || is_number q f.going)) _ h).0).1
 may_leaves f since (Some r) (button.Standby c) o h = (both f.stands f.is_quiet (both (f.stands && f.is_quiet) _ h).0).1
 may_leaves f since (Some r) (button.Release q d) o h =
     (both f.stands f.is_quiet (both (f.stands && f.is_quiet) _ h).0).1
@@ -100,9 +116,6 @@ sending false due b ask = sending_none false due b ask refl
 
 -- ---- what is open then
 
-abbrev fresh : ℕ → ℕ → Button → Pending
-fresh at ask b = record { at = at; ask = ask; button = b; answer = None; settled = None }
-
 -- what is kept once a press was sent: that of before beside it, if that is open
 pub record KeepsOpen (r : Option Reading) (sent : List Pending) (press beside : Option Pending) (all : List Pending)
     : Type 0 where
@@ -114,7 +127,7 @@ pub keeps_none : (r : Option Reading) (press beside : Option Pending) (all : Lis
     → KeepsOpen r [] press beside all
 keeps_none r press beside all e k = record { opened = e; beside_is = k }
 
-final_beside : (p : Pending) (o : Option Pending) → is_final p.button ≡ true → is_beside (Some p) o ≡ true
+final_beside : (p : Pending) (o : Option Pending) → is_cancel p.button ≡ true → is_beside (Some p) o ≡ true
 final_beside p None h = refl
 final_beside p (Some y) h = h
 
@@ -123,18 +136,18 @@ none_beside : (p : Pending) (one other : Option Pending) → one ≡ None → ot
 none_beside p one other e k =
     ap (λ o. is_beside (Some p) (first_of o other)) e ∙ ap (λ o. is_beside (Some p) o) k
 
-keeps_one : (r : Option Reading) (at ask : ℕ) (b : Button) (press beside : Option Pending) (all : List Pending)
+keeps_one : (r : Option Reading) (at ask before : ℕ) (b : Button) (press beside : Option Pending) (all : List Pending)
     → open_in r press beside ≡ filter (is_open r) all
     → (if_open r press ≡ None) ⊎ (beside ≡ None)
-    → (is_final b ≡ true) ⊎ ((if_open r press ≡ None) × (beside ≡ None))
-    → KeepsOpen r (fresh at ask b ∷ []) press beside all
-keeps_one r at ask b press beside all e one final =
+    → (is_cancel b ≡ true) ⊎ ((if_open r press ≡ None) × (beside ≡ None))
+    → KeepsOpen r (fresh at ask before b ∷ []) press beside all
+keeps_one r at ask before b press beside all e one final =
     record {
-      opened = ap (λ v. fresh at ask b ∷ v) (first_two (if_open r press) beside one ∙ e);
+      opened = ap (λ v. fresh at ask before b ∷ v) (first_two (if_open r press) beside one ∙ e);
       beside_is = ⊎_elim
-          (λ (k : is_final b ≡ true). final_beside (fresh at ask b) (first_of (if_open r press) beside) k)
+          (λ (k : is_cancel b ≡ true). final_beside (fresh at ask before b) (first_of (if_open r press) beside) k)
           (λ (k : (if_open r press ≡ None) × (beside ≡ None)).
-          none_beside (fresh at ask b) (if_open r press) beside k.0 k.1)
+          none_beside (fresh at ask before b) (if_open r press) beside k.0 k.1)
           final;
     }
 
@@ -143,18 +156,18 @@ keeps_sent : (r : Option Reading) (at : ℕ) (b : Button) (view : ℕ) (s : Send
     → (press beside : Option Pending) (all : List Pending)
     → open_in r press beside ≡ filter (is_open r) all → is_beside press beside ≡ true
     → (t ≡ true → (if_open r press ≡ None) ⊎ (beside ≡ None))
-    → (t ≡ true → (is_final b ≡ true) ⊎ ((if_open r press ≡ None) × (beside ≡ None)))
-    → KeepsOpen r (cond t (fresh at s.ask b ∷ []) []) press beside all
+    → (t ≡ true → (is_cancel b ≡ true) ⊎ ((if_open r press ≡ None) × (beside ≡ None)))
+    → KeepsOpen r (cond t (fresh at s.ask (newest_in r) b ∷ []) []) press beside all
 keeps_sent r at b view s true was press beside all e k one final =
-    keeps_one r at s.ask b press beside all e (one refl) (final refl)
+    keeps_one r at s.ask (newest_in r) b press beside all e (one refl) (final refl)
 keeps_sent r at b view s false was press beside all e k one final = keeps_none r press beside all e k
 
 pub keeps_pressed : (r : Option Reading) (at : ℕ) (b : Button) (view : ℕ) (send : Option Send)
     (press beside : Option Pending) (all : List Pending)
     → open_in r press beside ≡ filter (is_open r) all → is_beside press beside ≡ true
     → (is_press_sent send ≡ true → (if_open r press ≡ None) ⊎ (beside ≡ None))
-    → (is_press_sent send ≡ true → (is_final b ≡ true) ⊎ ((if_open r press ≡ None) × (beside ≡ None)))
-    → KeepsOpen r (sent_press (heard.Pressed view b) at send) press beside all
+    → (is_press_sent send ≡ true → (is_cancel b ≡ true) ⊎ ((if_open r press ≡ None) × (beside ≡ None)))
+    → KeepsOpen r (sent_press (heard.Pressed view b) at r send) press beside all
 keeps_pressed r at b view None press beside all e k one final = keeps_none r press beside all e k
 keeps_pressed r at b view (Some s) press beside all e k one final =
     keeps_sent r at b view s (is_press_sent (Some s)) refl press beside all e k one final

@@ -16,7 +16,7 @@ use Rattle.cue_view.specs.declared.button.Button.TheVariants as button
 use Rattle.cue_station.specs.declared.heard.Heard.{Heard}
 use Rattle.cue_station.specs.declared.heard.Heard.TheVariants as heard
 use Rattle.cue_view.specs.declared.view.Trouble.{Trouble}
-use Rattle.cue_station.specs.declared.limits.TheConstants.{COPY_MS, KEPT_SEEN, OTHER_MS, STATUS_MS}
+use Rattle.cue_station.specs.declared.limits.TheConstants.{COPY_MS, KEPT_SEEN, OTHER_MS, SHOWN_MS, STATUS_MS}
 use Rattle.cue_station.specs.declared.memory.Answered.{Answered}
 use Rattle.cue_station.specs.declared.memory.Question.{Question}
 use Rattle.cue_station.specs.declared.memory.Reading.{Reading}
@@ -171,6 +171,24 @@ other_by (Some since) now = if nat_le (since + OTHER_MS) now then Some (alarm.Ot
 abbrev pub other_store : Facts → Option Alarm
 other_store f = other_by f.differs f.at
 
+-- the last press was said to be carried out, and a copy that was begun a second later does not show it
+abbrev pub not_shown_by : Option ℕ → Option ℕ → Option Alarm
+not_shown_by (Some since) (Some read) =
+    if nat_le (since + SHOWN_MS) read then Some (alarm.NotShown since) else None
+not_shown_by _ _ = None
+
+abbrev pub not_shown : Facts → Option Alarm
+not_shown f = not_shown_by f.unshown f.read
+
+-- the one, else the other
+abbrev pub either_by : Option Alarm → Option Alarm → Option Alarm
+either_by None other = other
+either_by (Some a) other = Some a
+
+-- what answers at the port is not what the store shows
+abbrev pub doubt : Facts → Option Alarm
+doubt f = either_by (other_store f) (not_shown f)
+
 -- the relay has stopped
 abbrev pub stopped_by : Option ℕ → ℕ → Option Alarm
 stopped_by None now = None
@@ -220,6 +238,6 @@ silent_in network = map (λ c. c.device) (filter (λ c. c.silent) network)
 
 abbrev pub alarms_by : Facts → List ℕ → List ℕ → List Contacted → List Alarm
 alarms_by f put_back failures network =
-    option_to_list (silence f) ++ (option_to_list (other_store f) ++ (option_to_list (relay_stopped f)
+    option_to_list (silence f) ++ (option_to_list (doubt f) ++ (option_to_list (relay_stopped f)
     ++ (option_to_list (old_store f) ++ (map alarm.ClockPutBack put_back ++ (map alarm.Failed (failed_by f failures)
     ++ map alarm.DeviceSilent (silent_in network))))))

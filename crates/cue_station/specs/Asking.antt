@@ -1,10 +1,11 @@
 -- What became of the presses that were sent.
-use Rattle.std.specs.Prelude.{ℕ, ℤ, pos, Bool, true, false, not, ◌&&◌, ◌||◌, if◌then◌else◌, List, [], ◌∷◌, ◌++◌, map}
+use Rattle.std.specs.Prelude.{ℕ, ℤ, ◌+◌, pos, Bool, true, false, not, ◌&&◌, ◌||◌, if◌then◌else◌, List, [], ◌∷◌, ◌++◌, map}
 use Rattle.std.specs.Prelude.{Option, None, Some, is_some, is_none, nat_eq, nat_le, nat_lt}
 use Rattle.std.specs.List.{list_any, list_all}
-use Rattle.std.specs.Option.{option_map, option_map_or}
+use Rattle.std.specs.Option.{option_eq, option_map, option_map_or}
 use Rattle.std.specs.Ordering.{int_eq}
-use Rattle.cue_exchange.specs.Answers.{is_decided, is_cancelling}
+use Rattle.cue_show.specs.Number.{same_text}
+use Rattle.cue_exchange.specs.Answers.{answer_passes, is_cancelling, is_decided, is_waiting}
 use Rattle.cue_exchange.specs.Steps.{holds}
 use Rattle.cue_exchange.specs.Live.{attempt_of, attempt_of_cue}
 use Rattle.cue_exchange.specs.declared.attempt.Attempt.{Attempt}
@@ -17,6 +18,7 @@ use Rattle.cue_station.specs.declared.heard.Copied.{Copied}
 use Rattle.cue_station.specs.declared.heard.Heard.{Heard}
 use Rattle.cue_station.specs.declared.heard.Heard.TheVariants as heard
 use Rattle.cue_station.specs.declared.heard.Send.{Send}
+use Rattle.cue_station.specs.declared.limits.TheConstants.{TAP_MS}
 use Rattle.cue_station.specs.declared.memory.Answered.{Answered}
 use Rattle.cue_station.specs.declared.memory.Pending.{Pending}
 use Rattle.cue_station.specs.declared.memory.Reading.{Reading}
@@ -100,6 +102,29 @@ abbrev pub settled_by : Button → ℕ → Option Answered → Option Reading �
 settled_by b sent a None = None
 settled_by b sent a (Some r) = if is_settled sent a r.at then Some (shown_of b r.copy) else None
 
+-- ---- what the store shows of what was said to be carried out
+
+-- the newest attempt that the copy knows of; 0 if it knows of none
+abbrev pub newest_in : Option Reading → ℕ
+newest_in None = 0
+newest_in (Some r) = r.copy.state.last_seq
+
+-- The copy shows that the press was carried out. `before` was the newest attempt when it was sent.
+abbrev pub is_shown_in : Button → ℕ → Copied → Bool
+is_shown_in (button.Standby cue) before c =
+    is_some (attempt_of_cue c.state.live cue) || nat_lt before c.state.last_seq
+is_shown_in (button.Go cue q) before c = was_given q c || not (is_known q c)
+is_shown_in (button.Cancel cue q) before c = was_given_up q c || not (is_known q c)
+is_shown_in (button.Release q d) before c =
+    not (option_map_or (λ (a : Attempt). answer_passes is_waiting d a.answers) (attempt_of c.state.live q) false)
+is_shown_in (button.MoveTo cue) before c = option_eq same_text (Some cue) c.state.show.place
+is_shown_in (button.Choose q) before c = true
+is_shown_in (button.Seen q) before c = true
+
+abbrev pub is_shown_by : Button → ℕ → Option Reading → Bool
+is_shown_by b before None = false
+is_shown_by b before (Some r) = is_shown_in b before r.copy
+
 -- ---- turn by turn
 
 -- what was known first
@@ -107,24 +132,30 @@ abbrev pub first_of : {A : Type 0} → Option A → Option A → Option A
 first_of None new = new
 first_of (Some old) new = Some old
 
--- A press, once something more was heard: the first answer that came to its socket counts, and the first copy that
--- settles it.
+-- A press, once something more was heard: the first answer that came to its socket counts, the first copy that settles
+-- it, and any copy that shows it.
 abbrev pub followed : Heard → ℕ → Option Answered → Option Reading → Pending → Pending
 followed h at a r p =
     record {
       at = p.at;
       ask = p.ask;
       button = p.button;
+      before = p.before;
       answer = first_of p.answer (answer_to p.ask h at);
       settled = first_of p.settled (settled_by p.button p.at a r);
+      shown = p.shown || is_shown_by p.button p.before r;
     }
 
--- the press that is sent at this moment
-abbrev pub sent_press : Heard → ℕ → Option Send → List Pending
-sent_press (heard.Pressed view b) at (Some s) =
-    if is_press_sent (Some s)
-    then record { at = at; ask = s.ask; button = b; answer = None; settled = None } ∷ [] else []
-sent_press _ at s = []
+-- a press that was sent just now, when this was the newest attempt
+abbrev pub fresh : ℕ → ℕ → ℕ → Button → Pending
+fresh at ask before b =
+    record { at = at; ask = ask; button = b; before = before; answer = None; settled = None; shown = false }
+
+-- the press that is sent at this moment, with r as the newest copy
+abbrev pub sent_press : Heard → ℕ → Option Reading → Option Send → List Pending
+sent_press (heard.Pressed view b) at r (Some s) =
+    if is_press_sent (Some s) then fresh at s.ask (newest_in r) b ∷ [] else []
+sent_press _ at r s = []
 
 -- the presses that were sent before, once this was heard
 abbrev pub heard_presses : Turn → List Turn → List Pending → List Pending
@@ -134,7 +165,8 @@ heard_presses t past ps =
 -- each press that was sent, and what became of it; the newest first
 abbrev pub presses_of : List Turn → List Pending
 presses_of [] = []
-presses_of (t ∷ past) = sent_press t.input.heard t.input.at t.sent ++ heard_presses t past (presses_of past)
+presses_of (t ∷ past) =
+    sent_press t.input.heard t.input.at (reading_of (t ∷ past)) t.sent ++ heard_presses t past (presses_of past)
 
 -- the newest
 abbrev pub newest_of : {A : Type 0} → List A → Option A
@@ -158,6 +190,15 @@ is_read_after (Some w) (Some r) = nat_le w.at r.at
 -- A press is open until it is answered and a copy was begun after that, or until a copy settles it.
 abbrev pub is_open : Option Reading → Pending → Bool
 is_open r p = not (is_read_after p.answer r) && is_none p.settled
+
+-- the press, if there is one that passes the test
+abbrev pub only : (Pending → Bool) → Option Pending → Option Pending
+only test None = None
+only test (Some p) = if test p then Some p else None
+
+-- the press, if there is one and it is open
+abbrev pub if_open : Option Reading → Option Pending → Option Pending
+if_open r o = only (is_open r) o
 
 -- it was carried out, or was so already
 abbrev pub is_done : Became → Bool
@@ -191,8 +232,32 @@ is_read_later (Some w) (Some r) = nat_lt w.at r.at
 abbrev pub is_over : Option Reading → Pending → Bool
 is_over r p = is_done (became_by p.answer p.settled) && (is_read_later p.answer r && has_ended p.button r)
 
+-- the reply says that it was carried out, or was so already
+abbrev pub is_said : Became → Bool
+is_said became.Made = true
+is_said became.Known = true
+is_said _ = false
+
+-- the reply says so, and no copy has shown it
+abbrev pub is_unshown : Pending → Bool
+is_unshown p = is_said (became_by p.answer p.settled) && not p.shown
+
+-- since when the reply says so, and no copy has shown it
+abbrev pub unshown_since : Pending → Option ℕ
+unshown_since p = if is_unshown p then option_map (λ (w : Word). w.at) p.answer else None
+
+abbrev pub unshown_by : Option Pending → Option ℕ
+unshown_by None = None
+unshown_by (Some p) = unshown_since p
+
+-- since when the last press is said to be carried out, and no copy has shown it
+abbrev pub unshown_of : List Turn → Option ℕ
+unshown_of turns = unshown_by (newest_of (presses_of turns))
+
+-- That it was carried out is what a copy has shown: until then the reply alone says so.
 abbrev pub became_now : Option Reading → Pending → Became
-became_now r p = if is_over r p then became.Over else became_by p.answer p.settled
+became_now r p =
+    if is_unshown p then became.Unshown else if is_over r p then became.Over else became_by p.answer p.settled
 
 abbrev pub said_by : Option Reading → Pending → Said
 said_by r p = record { ask = p.ask; button = p.button; became = became_now r p }
@@ -206,6 +271,24 @@ said_of turns = option_map (said_by (reading_of turns)) (newest_of (presses_of t
 -- no press is open
 abbrev pub is_quiet : List Turn → Bool
 is_quiet turns = list_all (λ p. not (is_open (reading_of turns) p)) (presses_of turns)
+
+-- the attempt of a GO
+abbrev pub go_number : Button → Option ℕ
+go_number (button.Go c q) = Some q
+go_number _ = None
+
+abbrev pub going_by : Option Pending → Option ℕ
+going_by None = None
+going_by (Some p) = go_number p.button
+
+-- the attempt of the last press, if that is a GO that is open
+abbrev pub going_of : List Turn → Option ℕ
+going_of turns = going_by (if_open (reading_of turns) (newest_of (presses_of turns)))
+
+-- it is a GO, within a second of the last press, which was a GO too
+abbrev pub is_tap : ℕ → Button → Option Pending → Bool
+is_tap now b None = false
+is_tap now b (Some p) = is_some (go_number b) && (is_some (go_number p.button) && nat_le now (p.at + TAP_MS))
 
 -- a go or a cancel
 abbrev pub is_final : Button → Bool

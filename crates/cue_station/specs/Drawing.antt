@@ -14,6 +14,7 @@ use Rattle.cue_station.specs.Reading.{reading_of, answered_of, seen_since}
 use Rattle.cue_station.specs.Alarms.{acknowledged_of, alarms_by, asked_at, differs_since, failed_of, failures_by}
 use Rattle.cue_station.specs.Alarms.{nobody_of}
 use Rattle.cue_station.specs.Alarms.{put_back_in, read_at, trouble_of}
+use Rattle.cue_station.specs.Asking.{unshown_of}
 use Rattle.cue_station.specs.Following.{next_in}
 use Rattle.cue_station.specs.Network.{network_by, relayed_of}
 use Rattle.cue_station.specs.Showing.{shown_live, stack_of}
@@ -27,7 +28,7 @@ pub record ShowsCopy (stands : Bool) (since given : ℕ → Option ℕ) (now wal
   pub stack : v.stack.items ≡ stack_of c.state.show
   pub last : v.last ≡ last_in c
   pub past : v.past.items ≡ past_in c
-  pub live : v.live.items ≡ shown_live stands since given now wall c.state.live
+  pub live : v.live.items ≡ shown_live stands since given c.events.items now wall c.state.live
 
 -- what it says if there is none
 pub record ShowsNone (v : View) : Type 0 where
@@ -61,6 +62,7 @@ facts_of turns now =
       trouble = trouble_of turns;
       failed = failed_of turns;
       acknowledged = acknowledged_of turns;
+      unshown = unshown_of turns;
     }
 
 -- what is wrong at a moment by each of the two clocks, the loudest first

@@ -1,5 +1,5 @@
 -- When a button may be lit, at a moment by each of the two clocks.
-use Rattle.std.specs.Prelude.{ℕ, Bool, true, false, ◌&&◌, List, [], ◌∷◌, ◌++◌, Option, None, Some, is_none, nat_eq}
+use Rattle.std.specs.Prelude.{ℕ, Bool, true, false, ◌&&◌, ◌||◌, List, [], ◌∷◌, ◌++◌, Option, None, Some, is_none, nat_eq}
 use Rattle.std.specs.Option.{option_map_or}
 use Rattle.cue_show.specs.Number.{same_text}
 use Rattle.cue_show.specs.Show.{has_cue}
@@ -17,7 +17,7 @@ use Rattle.cue_station.specs.declared.memory.Reading.{Reading}
 use Rattle.cue_station.specs.Turns.{Turn}
 use Rattle.cue_station.specs.Alarms.{stands_by}
 use Rattle.cue_station.specs.Reading.{reading_of, answered_of, seen_since}
-use Rattle.cue_station.specs.Asking.{is_quiet, is_calm}
+use Rattle.cue_station.specs.Asking.{going_of, is_calm, is_quiet}
 use Rattle.cue_station.specs.Choosing.{chosen_of, chosen_number}
 use Rattle.cue_station.specs.Following.{next_in}
 use Rattle.cue_station.specs.Showing.{is_in_time}
@@ -48,11 +48,11 @@ may_go f since cue q c =
     (f.stands && (f.is_quiet && is_number q f.chosen))
     && is_live_as q (λ a. same_text a.cue cue && is_ready (since q) f.at f.wall a) c.state.live
 
--- CANCEL: the attempt prepares, and was chosen. An open STANDBY or release of ours does not stop it: it is the safe
--- way.
+-- CANCEL: the attempt prepares, and was chosen, or the last press is a GO of it that is open. An open STANDBY or release
+-- of ours does not stop it: it is the safe way.
 abbrev pub may_cancel : Footing → List ℕ → ℕ → Copied → Bool
 may_cancel f cue q c =
-    (f.stands && (f.is_calm && is_number q f.chosen))
+    (f.stands && ((f.is_calm && is_number q f.chosen) || is_number q f.going))
     && is_live_as q (λ a. same_text a.cue cue && is_preparing a.stage) c.state.live
 
 -- STANDBY: the cue is next, and nothing is live at it.
@@ -88,7 +88,7 @@ may_by f since None b = false
 may_by f since (Some r) b = may_in f since r.copy b
 
 -- what a lit button rests on, beside the copy: the copy is young, and is what somebody at our port said lately that he
--- serves; which attempt is chosen; and whether a press is open
+-- serves; which attempt is chosen; of which the last press is an open GO; and whether a press is open
 abbrev pub footing_of : List Turn → ℕ → ℕ → Footing
 footing_of turns now wall =
     record {
@@ -96,6 +96,7 @@ footing_of turns now wall =
       wall = wall;
       stands = stands_by now (answered_of turns) (reading_of turns);
       chosen = chosen_number (chosen_of turns);
+      going = going_of turns;
       is_quiet = is_quiet turns;
       is_calm = is_calm turns;
     }
@@ -110,7 +111,7 @@ may turns now wall b = may_by (footing_of turns now wall) (λ q. seen_since q tu
 abbrev pub go_and_cancel : Attempt → List Button
 go_and_cancel a = button.Go a.cue a.seq ∷ button.Cancel a.cue a.seq ∷ []
 
--- those of the attempt that is chosen
+-- those of an attempt, if there is one
 abbrev pub keys_of_choice : List Attempt → Option ℕ → List Button
 keys_of_choice live None = []
 keys_of_choice live (Some q) = option_map_or go_and_cancel (attempt_of live q) []
@@ -122,6 +123,7 @@ standby_of next.Empty = []
 standby_of next.End = []
 standby_of next.Unknown = []
 
--- the three great buttons
+-- the three great buttons: GO and CANCEL of the attempt that is chosen, and of the one of an open GO
 abbrev pub keys_of : Footing → Copied → List Button
-keys_of f c = keys_of_choice c.state.live f.chosen ++ standby_of (next_in c)
+keys_of f c =
+    (keys_of_choice c.state.live f.chosen ++ keys_of_choice c.state.live f.going) ++ standby_of (next_in c)

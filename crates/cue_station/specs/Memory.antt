@@ -2,6 +2,8 @@
 use Rattle.std.specs.Prelude.{◌≡◌, ℕ, Bool, true, false, if◌then◌else◌, List, ◌∷◌, ◌++◌, Option, None, Some, length}
 use Rattle.std.specs.Prelude.{filter}
 use Rattle.std.specs.Option.{option_map_or, option_to_list}
+use Rattle.cue_view.specs.declared.button.Button.{Button}
+use Rattle.cue_view.specs.declared.button.Button.TheVariants as button
 use Rattle.cue_station.specs.declared.heard.Input.{Input}
 use Rattle.cue_station.specs.declared.memory.Notes.{Notes}
 use Rattle.cue_station.specs.declared.memory.Pending.{Pending}
@@ -13,7 +15,7 @@ use Rattle.cue_station.specs.declared.station.Station.{Station}
 use Rattle.cue_station.specs.declared.station.Step.{Step}
 use Rattle.cue_station.specs.Turns.{Turn}
 use Rattle.cue_station.specs.Alarms.{acknowledged_of, differs_since, failed_of, nobody_of, trouble_of}
-use Rattle.cue_station.specs.Asking.{is_final, is_open, newest_of, presses_of}
+use Rattle.cue_station.specs.Asking.{if_open, is_open, newest_of, presses_of}
 use Rattle.cue_station.specs.Choosing.{chosen_of}
 use Rattle.cue_station.specs.Laws.{Keeps}
 use Rattle.cue_station.specs.Network.{relayed_of}
@@ -23,23 +25,19 @@ use Rattle.cue_station.specs.Pressing.{asks_of}
 use Rattle.cue_station.specs.Reading.{answered_of, question_of, reading_of, seen_since}
 use Rattle.cue_station.specs.Showing.{given_in, given_since, since_in}
 
--- the press, if there is one that passes the test
-abbrev pub only : (Pending → Bool) → Option Pending → Option Pending
-only test None = None
-only test (Some p) = if test p then Some p else None
-
--- the press, if there is one and it is open
-abbrev pub if_open : Option Reading → Option Pending → Option Pending
-if_open r o = only (is_open r) o
-
 -- of the newest press and the one beside it, those that are open
 abbrev pub open_in : Option Reading → Option Pending → Option Pending → List Pending
 open_in r press beside = option_to_list (if_open r press) ++ option_to_list beside
 
--- the newest press is a go or a cancel, if another one is open beside it
+-- it is a cancel
+abbrev pub is_cancel : Button → Bool
+is_cancel (button.Cancel c q) = true
+is_cancel _ = false
+
+-- the newest press is a cancel, if another one is open beside it
 abbrev pub is_beside : Option Pending → Option Pending → Bool
 is_beside press None = true
-is_beside press (Some p) = option_map_or (λ (n : Pending). is_final n.button) press false
+is_beside press (Some p) = option_map_or (λ (n : Pending). is_cancel n.button) press false
 
 -- What is kept after an evening: the notes, the copy of the store, the relay, the attempts that are seen, the views.
 pub record IsKept (turns : List Turn) (n : Notes) (copied : Option Reading) (relayed : Option Relayed)

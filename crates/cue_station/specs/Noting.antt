@@ -17,10 +17,9 @@ use Rattle.cue_station.specs.declared.memory.Reading.{Reading}
 use Rattle.cue_station.specs.declared.memory.Shown.{Shown}
 use Rattle.cue_station.specs.Alarms.{acknowledged_by, differs_by, failures_by, lasting, newest, nobody_by, stands_by}
 use Rattle.cue_station.specs.Alarms.{trouble_with}
-use Rattle.cue_station.specs.Asking.{first_of, followed, sent_press}
+use Rattle.cue_station.specs.Asking.{first_of, followed, going_by, if_open, sent_press}
 use Rattle.cue_station.specs.Choosing.{chosen_by_press, chosen_by_sending, chosen_number, grown}
 use Rattle.cue_station.specs.Moving.{moved_by, place_by}
-use Rattle.cue_station.specs.Memory.{if_open}
 use Rattle.cue_station.specs.Opening.{has_ask, is_some_final}
 use Rattle.cue_station.specs.Pressing.{ask_after, order_of}
 use Rattle.cue_station.specs.Reading.{answered_with, question_with}
@@ -72,6 +71,7 @@ footing_by n r now wall =
       wall = wall;
       stands = stands_by now n.answered r;
       chosen = chosen_number n.choice;
+      going = going_by (if_open r n.press);
       is_quiet = is_none (if_open r n.press) && is_none n.beside;
       is_calm = not (is_some_final (if_open r n.press)) && not (is_some_final n.beside);
     }
@@ -111,6 +111,6 @@ notes_sent h at r send n =
       question = question_with send at n.question;
       choice = chosen_by_sending send n.choice;
       moved = moved_by send (place_by r) n.moved;
-      press = press_after (sent_press h at send) n.press;
-      beside = beside_after r (sent_press h at send) n.press n.beside;
+      press = press_after (sent_press h at r send) n.press;
+      beside = beside_after r (sent_press h at r send) n.press n.beside;
     }

@@ -13,6 +13,7 @@ use Rattle.cue_station.specs.declared.heard.Heard.TheVariants.{Pressed}
 use Rattle.cue_station.specs.declared.heard.Input.{Input}
 use Rattle.cue_station.specs.declared.heard.Send.{Send}
 use Rattle.cue_station.specs.Turns.{Turn}
+use Rattle.cue_station.specs.Asking.{is_tap, newest_of, presses_of}
 use Rattle.cue_station.specs.Lighting.{may}
 use Rattle.cue_station.specs.Offering.{is_offered, is_recent, kept_of}
 
@@ -31,12 +32,12 @@ order_of (button.Seen q) = None
 abbrev pub is_heeded : List Turn → ℕ → ℕ → ℕ → Button → Bool
 is_heeded past now wall view b = is_offered view now b (kept_of past) && may past now wall b
 
--- Why a press is not heeded: no young view has its number; else that view had the button dark; else it may no longer be
--- lit.
-abbrev pub refusal_by : Bool → Bool → Bool → Option Unsent
-refusal_by recent offered may =
-    if offered then if may then None else Some unsent.Changed else if recent then Some unsent.Dark
-    else Some unsent.Old
+-- Why a press is not heeded: it is the second tap of a GO; else no young view has its number; else that view had the
+-- button dark; else it may no longer be lit.
+abbrev pub refusal_by : Bool → Bool → Bool → Bool → Option Unsent
+refusal_by tap recent offered may =
+    if offered && may then None else if tap then Some unsent.Again else if offered then Some unsent.Changed
+    else if recent then Some unsent.Dark else Some unsent.Old
 
 -- of what was heard a press alone is refused
 abbrev pub unsent_by : (ℕ → Button → Option Unsent) → Heard → Option Unsent
@@ -47,7 +48,8 @@ unsent_by refusal _ = None
 abbrev pub unsent_of : List Turn → Input → Option Unsent
 unsent_of past i =
     unsent_by
-    (λ view b. refusal_by (list_any (is_recent view i.at) (kept_of past)) (is_offered view i.at b (kept_of past))
+    (λ view b. refusal_by (is_tap i.at b (newest_of (presses_of past)))
+    (list_any (is_recent view i.at) (kept_of past)) (is_offered view i.at b (kept_of past))
     (may past i.at i.wall b)) i.heard
 
 -- The message is that of a press that is heeded.

@@ -1,6 +1,9 @@
 -- What the law comes to, in single facts.
-use Rattle.std.specs.Prelude.{◌≡◌, ℕ, true, false, List, ◌∷◌, None, Some, IsTrue, nat_eq}
+use Rattle.std.specs.Prelude.{◌≡◌, ◌+◌, ◌<◌, ℕ, true, false, List, ◌∷◌, Option, None, Some, IsTrue, nat_eq}
 use Rattle.std.specs.List.{list_any}
+use Rattle.cue_core.specs.declared.limits.TheConstants.{STANDBY_MS}
+use Rattle.cue_exchange.specs.Live.{attempt_of}
+use Rattle.cue_exchange.specs.declared.attempt.Attempt.{Attempt}
 use Rattle.cue_view.specs.declared.button.Button.TheVariants as button
 use Rattle.cue_station.specs.declared.heard.Copied.{Copied}
 use Rattle.cue_view.specs.declared.view.Next.TheVariants as next
@@ -9,10 +12,9 @@ use Rattle.cue_station.specs.Turns.{Turn}
 use Rattle.cue_station.specs.Alarms.{acknowledged_of, is_acknowledged}
 use Rattle.cue_station.specs.Faults.{failing_in}
 use Rattle.cue_station.specs.Following.{next_in, has_given, tells_all}
-use Rattle.cue_station.specs.Lighting.{may}
 use Rattle.cue_station.specs.Laws.{Keeps}
 use Rattle.cue_station.specs.Offering.{is_lit}
-use Rattle.cue_station.specs.Reading.{reading_of}
+use Rattle.cue_station.specs.Reading.{reading_of, seen_since}
 use Rattle.cue_station.specs.Sendings.{gives}
 use Rattle.cue_station.specs.Smaller.{is_failure_of}
 
@@ -24,10 +26,25 @@ NoCueAfterEnd =
 abbrev pub AfterGoNothing : Type 0
 AfterGoNothing = (t : Turn) (past : List Turn) → Keeps t past → IsTrue (gives t.sent) → t.view.chosen ≡ None
 
+-- The newest copy has the attempt q at the cue live, and its ten seconds are over by neither clock: its deadline is
+-- after now by the wall, and ten seconds since it was first seen are not over by ours.
+pub record IsInTime (c : List ℕ) (q now wall : ℕ) (r : Option Reading) (since : Option ℕ) : Type 0 where
+  pub reading : Reading
+  pub read : r ≡ Some reading
+  pub attempt : Attempt
+  pub live : attempt_of reading.copy.state.live q ≡ Some attempt
+  pub cue : attempt.cue ≡ c
+  pub by_wall : wall < attempt.deadline
+  pub seen : ℕ
+  pub first : since ≡ Some seen
+  pub by_ours : now < seen + STANDBY_MS
+
+-- GO is lit for an attempt only while it is in time
 abbrev pub DeadlineIsDark : Type 0
 DeadlineIsDark =
     (t : Turn) (past : List Turn) (c : List ℕ) (q : ℕ) → Keeps t past
-    → IsTrue (is_lit (button.Go c q) t.view.lit.items) → IsTrue (may (t ∷ past) t.input.at t.input.wall (button.Go c q))
+    → IsTrue (is_lit (button.Go c q) t.view.lit.items)
+    → IsInTime c q t.input.at t.input.wall (reading_of (t ∷ past)) (seen_since q (t ∷ past))
 
 -- what goes wrong in a live attempt has its alarm at once, unless it was seen
 abbrev pub FailingIsSaid : Type 0

@@ -17,6 +17,7 @@ use Rattle.cue_station.specs.declared.station.Step.{Step}
 use Rattle.cue_view.specs.declared.view.Unsent.{Unsent}
 use Rattle.cue_view.specs.declared.view.View.{View}
 use Rattle.cue_station.specs.Alarms.{nothing_seen}
+use Rattle.cue_station.specs.Asking.{is_tap}
 use Rattle.cue_station.specs.Lighting.{may_by}
 use Rattle.cue_station.specs.Network.{relayed_with}
 use Rattle.cue_station.specs.Noting.{footing_by, notes_heard, notes_sent, order_by, send_by}
@@ -81,7 +82,8 @@ IsRefusal s i u = Refuses (is_heeded_by s i) i.heard u
 -- why a press is not heeded, if it is not
 abbrev pub refusal_now : Station → Input → ℕ → Button → Option Unsent
 refusal_now s i view b =
-    refusal_by (list_any (is_recent view i.at) s.views.items) (is_offered view i.at b s.views.items)
+    refusal_by (is_tap i.at b s.notes.press) (list_any (is_recent view i.at) s.views.items)
+    (is_offered view i.at b s.views.items)
     (may_by (footing_by s.notes s.reading i.at i.wall) (since_in s.seen.items) s.reading b)
 
 abbrev pub unsent_now : Station → Input → Option Unsent

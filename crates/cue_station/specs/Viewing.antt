@@ -14,7 +14,7 @@ use Rattle.cue_view.specs.declared.view.Next.TheVariants as next
 use Rattle.cue_view.specs.declared.view.View.{View}
 use Rattle.cue_station.specs.declared.viewing.Drawn.{Drawn}
 use Rattle.cue_station.specs.Alarms.{alarms_by, asked_at, failures_by, put_back_in, read_at}
-use Rattle.cue_station.specs.Asking.{said_by}
+use Rattle.cue_station.specs.Asking.{said_by, unshown_by}
 use Rattle.cue_station.specs.Drawing.{ShowsReading, live_by}
 use Rattle.cue_station.specs.Following.{next_in}
 use Rattle.cue_station.specs.Moving.{back_by, place_by}
@@ -42,6 +42,7 @@ facts_by n r relay now =
       trouble = n.trouble;
       failed = n.failed;
       acknowledged = n.acknowledged;
+      unshown = unshown_by n.press;
     }
 
 -- what is wrong
@@ -66,7 +67,7 @@ pub record DrawsCopy (f : Footing) (seen : List Seen) (c : Copied) (d : Drawn) :
   pub stack : d.stack.items ≡ stack_of c.state.show
   pub last : d.last ≡ last_in c
   pub past : d.past.items ≡ past_in c
-  pub live : d.live.items ≡ shown_live f.stands (since_in seen) (given_in seen) f.at f.wall c.state.live
+  pub live : d.live.items ≡ shown_live f.stands (since_in seen) (given_in seen) c.events.items f.at f.wall c.state.live
 
 abbrev pub DrawsBy : Footing → List Seen → Option Reading → Drawn → Type 0
 DrawsBy f seen None d = DrawsNone d

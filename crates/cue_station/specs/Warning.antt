@@ -25,6 +25,7 @@ abbrev pub rank_of : Alarm → ℕ
 rank_of alarm.NobodyListens = 0
 rank_of (alarm.Silent since) = 1
 rank_of (alarm.OtherStore since) = 2
+rank_of (alarm.NotShown since) = 2
 rank_of (alarm.RelayStopped since) = 3
 rank_of (alarm.Unread why) = 4
 rank_of (alarm.Old read) = 5

@@ -8,7 +8,7 @@ ghost use Rattle.cue_view.specs.declared.view.Alarm.TheVariants as alarm;
 
 use crate::faults::one_or_none;
 use crate::heard::Copied;
-use crate::limits::{COPY_MS, OTHER_MS, STATUS_MS};
+use crate::limits::{COPY_MS, OTHER_MS, SHOWN_MS, STATUS_MS};
 use crate::memory::{Acknowledged, Seen};
 use crate::network::is_stopped;
 use crate::showing::since_in;
@@ -38,6 +38,8 @@ pub struct Facts {
     pub failed: Option<u32>,
     /// The attempts of which presses said that they were seen.
     pub acknowledged: Acknowledged,
+    /// Since when the last press is said to be carried out, and no copy has shown it.
+    pub unshown: Option<u64>,
 }
 
 /// Whether a status is alive that was asked at this moment, or none ever was.
@@ -80,6 +82,33 @@ fn other_store(facts: Facts) -> Option<Alarm>
     match facts.differs {
         Some(since) if facts.at.saturating_sub(since) >= OTHER_MS => Some(Alarm::OtherStore(since)),
         _ => None,
+    }
+}
+
+// A copy does not show what the reply of this moment says.
+fn not_shown_by(since: Option<u64>, read: Option<u64>) -> Option<Alarm>
+    ensures { result ≡ alarms.not_shown_by since read }
+{
+    match (since, read) {
+        (Some(since), Some(read)) => {
+            if read.saturating_sub(since) >= SHOWN_MS {
+                Some(Alarm::NotShown(since))
+            } else {
+                None
+            }
+        }
+        (None, _) => None,
+        (Some(_), None) => None,
+    }
+}
+
+// What answers at the port is not what the store shows.
+fn doubt(facts: Facts) -> Option<Alarm>
+    ensures { result ≡ alarms.doubt facts }
+{
+    match other_store(facts) {
+        Some(alarm) => Some(alarm),
+        None => not_shown_by(facts.unshown, facts.read),
     }
 }
 
@@ -258,7 +287,7 @@ pub fn alarms_of(
     let silent = silent_in(alloc, network)?;
     let mut all = Vec::new(alloc);
     push_one(&mut all, silence(facts))?;
-    push_one(&mut all, other_store(facts))?;
+    push_one(&mut all, doubt(facts))?;
     push_one(&mut all, relay_stopped(facts))?;
     push_one(&mut all, old_store(facts))?;
     push_put_back(&mut all, put_back)?;

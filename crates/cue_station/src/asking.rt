@@ -9,6 +9,7 @@ ghost use Rattle.cue_exchange.specs.Live.{attempt_of, attempt_of_cue};
 ghost use Rattle.cue_exchange.specs.Steps.{holds};
 ghost use Rattle.cue_station.specs.Asking as asking;
 
+use crate::evidence::is_shown_by;
 use crate::heard::{Copied, Heard};
 use crate::memory::{Answered, Pending, Reading, Word};
 use cue_core::{Event, State};
@@ -89,8 +90,8 @@ fn answer_to(ask: u64, heard: &Heard, at: u64) -> Option<Word>
     }
 }
 
-// Whether the attempt starts.
-fn is_start_of(seq: u32, event: &Event) -> bool
+/// Whether the attempt starts.
+pub(crate) fn is_start_of(seq: u32, event: &Event) -> bool
     ensures { result ≡ happening.is_start_of seq event.now }
 {
     match event {
@@ -169,27 +170,29 @@ fn is_cancelling(seq: u32, state: &State) -> bool
     live.iter().any(|a| a.seq == seq && a.stage.is_cancelling())
 }
 
-// Whether the attempt is in the copy, or its start is among the events.
-fn is_known(seq: u32, copy: &Copied) -> bool
+/// Whether the attempt is in the copy, or its start is among the events.
+pub(crate) fn is_known(seq: u32, copy: &Copied) -> bool
     ensures { result ≡ asking.is_known seq copy.now }
 {
     is_live(seq, &copy.state) || has_started(seq, &copy.events)
 }
 
-fn was_given(seq: u32, copy: &Copied) -> bool
+/// Whether the attempt was given.
+pub(crate) fn was_given(seq: u32, copy: &Copied) -> bool
     ensures { result ≡ asking.was_given seq copy.now }
 {
     has_gone(seq, &copy.events) || is_decided(seq, &copy.state)
 }
 
-fn was_given_up(seq: u32, copy: &Copied) -> bool
+/// Whether its preparation was given up.
+pub(crate) fn was_given_up(seq: u32, copy: &Copied) -> bool
     ensures { result ≡ asking.was_given_up seq copy.now }
 {
     has_cancelled(seq, &copy.events) || is_cancelling(seq, &copy.state)
 }
 
-// Whether an attempt is live at the cue.
-fn is_live_at(cue: CueNo, state: &State) -> bool
+/// Whether an attempt is live at the cue.
+pub(crate) fn is_live_at(cue: CueNo, state: &State) -> bool
     ensures { result ≡ is_some (attempt_of_cue state.now.live cue) }
 {
     state.live().of_cue(cue).is_some()
@@ -289,8 +292,10 @@ fn followed(
         at: pending.at,
         ask: pending.ask,
         button: pending.button,
+        before: pending.before,
         answer: answer_after(pending, at, heard),
         settled: settled_after(pending, answered, reading),
+        shown: pending.shown || is_shown_by(pending.button, pending.before, reading),
     }
 }
 

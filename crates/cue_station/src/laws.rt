@@ -3,7 +3,7 @@ ghost use Rattle.std.specs.Prelude.{◌≡◌};
 ghost use Rattle.cue_station.specs.Examples.{LitUnheardIsRefused, OtherCueIsRefused, UnpressedIsRefused};
 ghost use Rattle.cue_station.specs.Readings.{AfterGoNothing, DeadlineIsDark, FailingIsSaid, NoCueAfterEnd};
 ghost use Rattle.cue_station.specs.declared.limits.TheConstants.{COPY_MS, KEPT_SEEN, KEPT_VIEWS, MAX_TOLD, OTHER_MS};
-ghost use Rattle.cue_station.specs.declared.limits.TheConstants.{PRESS_MS, RELAY_MS, STATUS_MS};
+ghost use Rattle.cue_station.specs.declared.limits.TheConstants.{PRESS_MS, RELAY_MS, SHOWN_MS, STATUS_MS, TAP_MS};
 
 /// Without a place a cue is next only if none was given, and if the events tell of every attempt.
 pub fn no_cue_after_the_end()
@@ -15,7 +15,8 @@ pub fn after_go_nothing()
     ensures { AfterGoNothing }
 {}
 
-/// GO is lit for no attempt whose ten seconds are over by either clock.
+/// A GO that is lit is of a live attempt of the newest copy, whose deadline is after now by the wall's clock, and of which
+/// ten seconds since it was first seen are not over by the one that never goes back.
 pub fn deadline_is_dark()
     ensures { DeadlineIsDark }
 {}
@@ -43,7 +44,8 @@ pub fn other_cue_is_refused()
 
 /// What the desk stands by, in milliseconds: a copy for 1,000, a status for 2,000, a view for a press for 1,000. Another
 /// store is named after 1,000, a relay has stopped after 5,000. A press may name one of the newest 128 views, 8
-/// attempts are told as ended, and of 64 attempts in a row each keeps that it was seen.
+/// attempts are told as ended, and of 64 attempts in a row each keeps that it was seen. A GO within 1,000 of another is
+/// its second tap, and a press that was made is shown by the store within 1,000.
 pub fn limits()
     ensures copy { COPY_MS ≡ 1000 }
     ensures status { STATUS_MS ≡ 2000 }
@@ -53,4 +55,6 @@ pub fn limits()
     ensures other { OTHER_MS ≡ 1000 }
     ensures relay { RELAY_MS ≡ 5000 }
     ensures seen { KEPT_SEEN ≡ 64 }
+    ensures tap { TAP_MS ≡ 1000 }
+    ensures shown { SHOWN_MS ≡ 1000 }
 {}

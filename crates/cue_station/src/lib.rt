@@ -16,7 +16,10 @@
 //!   by never takes GO.
 //! - A press without a reply is open until a copy was begun after a status came that was asked after the press: then
 //!   the store shows what became of it. While a press is open no other one may be sent, but for CANCEL, which is the
-//!   safe way.
+//!   safe way: also of the cue whose GO is open, as long as the store has it prepare.
+//! - That a press was carried out is said once a copy of the store shows it: until then the reply alone says so, and a
+//!   program that holds the port can say the same. What no copy shows within a second is an alarm.
+//! - A GO within a second of a GO that was sent is the second tap of one finger. It is not sent, and said to be that.
 //! - That a STANDBY was made is said while its cue stands by. Once it was given up, or has ended, that is said.
 //! - What came to a socket before it was opened is nothing; the answer of a press is the first that comes after it was
 //!   sent.
@@ -44,6 +47,7 @@ pub mod alarms;
 pub mod asking;
 pub mod choosing;
 pub mod evening;
+pub mod evidence;
 pub mod faults;
 pub mod following;
 pub mod heard;

@@ -1,5 +1,5 @@
 //! When a button may be lit.
-ghost use Rattle.std.specs.Prelude.{◌≡◌, ◌&&◌, is_none};
+ghost use Rattle.std.specs.Prelude.{◌≡◌, ◌&&◌, ◌||◌, is_none};
 ghost use Rattle.cue_exchange.specs.Answers.{answer_passes, is_preparing, is_waiting};
 ghost use Rattle.cue_exchange.specs.Live.{attempt_of_cue};
 ghost use Rattle.cue_show.specs.Number.{same_text};
@@ -29,6 +29,8 @@ pub struct Footing {
     /// Whether the copy is young, and is what somebody served lately.
     pub stands: bool,
     pub chosen: Option<u32>,
+    /// The attempt of the last press, if that is a GO that is open.
+    pub going: Option<u32>,
     /// Whether no press is open.
     pub is_quiet: bool,
     /// Whether no go and no cancel is open.
@@ -159,11 +161,11 @@ fn is_free(state: &State, cue: CueNo) -> bool
     state.live().of_cue(cue).is_none()
 }
 
-// Whether the copy stands, this holds of the presses, and the attempt is chosen.
-fn stands_chosen(footing: Footing, presses: bool, seq: u32) -> bool
-    ensures { result ≡ (footing.stands && (presses && lighting.is_number seq footing.chosen)) }
+// Whether the copy stands, no press is open, and the attempt is chosen.
+fn stands_chosen(footing: Footing, seq: u32) -> bool
+    ensures { result ≡ (footing.stands && (footing.is_quiet && lighting.is_number seq footing.chosen)) }
 {
-    footing.stands && (presses && is_number(seq, footing.chosen))
+    footing.stands && (footing.is_quiet && is_number(seq, footing.chosen))
 }
 
 /// Whether the copy stands, and no press is open.
@@ -178,14 +180,24 @@ fn may_go(state: &State, seen: &[Seen], footing: Footing, cue: CueNo, seq: u32) 
         && lighting.is_live_as seq (λ a. same_text a.cue cue
         && lighting.is_ready (since_in seen.now seq) footing.at footing.wall a) state.now.live) }
 {
-    stands_chosen(footing, footing.is_quiet, seq) && is_ready_at(state, seen, footing, cue, seq)
+    stands_chosen(footing, seq) && is_ready_at(state, seen, footing, cue, seq)
+}
+
+// Whether the attempt is chosen and no go and no cancel is open, or the last press is a GO of it that is open.
+fn is_cancelled_by(footing: Footing, seq: u32) -> bool
+    ensures { result ≡ (footing.stands && ((footing.is_calm && lighting.is_number seq footing.chosen)
+        || lighting.is_number seq footing.going)) }
+{
+    footing.stands
+        && ((footing.is_calm && is_number(seq, footing.chosen)) || is_number(seq, footing.going))
 }
 
 fn may_cancel(state: &State, footing: Footing, cue: CueNo, seq: u32) -> bool
-    ensures { result ≡ ((footing.stands && (footing.is_calm && lighting.is_number seq footing.chosen))
+    ensures { result ≡ ((footing.stands && ((footing.is_calm && lighting.is_number seq footing.chosen)
+        || lighting.is_number seq footing.going))
         && lighting.is_live_as seq (λ a. same_text a.cue cue && is_preparing a.stage) state.now.live) }
 {
-    stands_chosen(footing, footing.is_calm, seq) && prepares_at(state, cue, seq)
+    is_cancelled_by(footing, seq) && prepares_at(state, cue, seq)
 }
 
 // Whether the cue is next, and nothing is live at it.

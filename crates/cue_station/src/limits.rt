@@ -24,3 +24,9 @@ pub const OTHER_MS: u64 = 1_000;
 
 /// How long a relay has to write nothing new before it counts as stopped, in milliseconds.
 pub const RELAY_MS: u64 = 5_000;
+
+/// How soon after a GO another one is the second tap of one finger, in milliseconds.
+pub const TAP_MS: u64 = 1_000;
+
+/// How long after a reply that a press was carried out a copy of the store has to show it, in milliseconds.
+pub const SHOWN_MS: u64 = 1_000;

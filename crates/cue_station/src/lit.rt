@@ -27,7 +27,7 @@ fn go_and_cancel(alloc: Global, attempt: &Attempt) -> Result<Vec<Button>, AllocE
     Ok(keys)
 }
 
-// GO and CANCEL of the attempt that is chosen, if it is live.
+// GO and CANCEL of the attempt, if there is one and it is live.
 fn keys_of_choice(
     alloc: Global,
     state: &State,
@@ -105,8 +105,8 @@ fn failure_of(alarm: &Alarm) -> Option<u32>
 {
     match alarm {
         Alarm::Failed(seq) => Some(*seq),
-        Alarm::NobodyListens | Alarm::Silent(_) | Alarm::OtherStore(_) | Alarm::RelayStopped(_) =>
-            None,
+        Alarm::NobodyListens | Alarm::Silent(_) | Alarm::OtherStore(_) => None,
+        Alarm::NotShown(_) | Alarm::RelayStopped(_) => None,
         Alarm::Unread(_) | Alarm::Old(_) | Alarm::ClockPutBack(_) | Alarm::DeviceSilent(_) => None,
     }
 }
@@ -144,12 +144,23 @@ fn push_failures(
     push_seen(buttons, &failures)
 }
 
+// GO and CANCEL of the attempt that is chosen, and of the one of an open GO.
+fn keys_of_both(alloc: Global, state: &State, footing: Footing) -> Result<Vec<Button>, AllocError>
+    ensures { IfOk result (λ keys. keys.items ≡ lighting.keys_of_choice state.now.live footing.chosen
+        ++ lighting.keys_of_choice state.now.live footing.going) }
+{
+    let mut keys = keys_of_choice(alloc, state, footing.chosen)?;
+    let going = keys_of_choice(alloc, state, footing.going)?;
+    keys.extend_from_slice(&going)?;
+    Ok(keys)
+}
+
 // The buttons of the attempts: the three great ones, and the smaller ones of each live attempt.
 fn of_attempts(alloc: Global, copy: &Copied, footing: Footing) -> Result<Vec<Button>, AllocError>
     ensures { IfOk result (λ buttons. buttons.items
         ≡ lighting.keys_of footing copy.now ++ flat_map smaller.of_attempt copy.now.state.live) }
 {
-    let mut buttons = keys_of_choice(alloc, &copy.state, footing.chosen)?;
+    let mut buttons = keys_of_both(alloc, &copy.state, footing)?;
     push_standby(&mut buttons, next_in(copy))?;
     push_attempts(&mut buttons, copy.state.live().as_slice())?;
     Ok(buttons)

@@ -108,15 +108,17 @@ pub struct Word {
     pub became: Became,
 }
 
-/// A press that was sent: when, its ask and its button; what came to its socket; and what the first copy showed that
-/// settled it.
+/// A press that was sent: when, its ask and its button; which attempt was the newest then; what came to its socket; what
+/// the first copy showed that settled it; and whether a copy showed that it was carried out.
 #[derive(Clone, Copy)]
 pub struct Pending {
     pub at: u64,
     pub ask: u64,
     pub button: Button,
+    pub before: u32,
     pub answer: Option<Word>,
     pub settled: Option<Became>,
+    pub shown: bool,
 }
 
 /// A press that moved the place: from where, and to where.

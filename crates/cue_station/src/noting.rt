@@ -2,8 +2,7 @@
 ghost use Rattle.std.specs.Prelude.{◌≡◌, ◌+◌, [], ◌∷◌, IfOk};
 ghost use Rattle.std.specs.Option.{option_map};
 ghost use Rattle.cue_station.specs.Alarms.{failures_by};
-ghost use Rattle.cue_station.specs.Asking.{first_of, sent_press};
-ghost use Rattle.cue_station.specs.Memory.{if_open};
+ghost use Rattle.cue_station.specs.Asking.{first_of, fresh, if_open, newest_in, sent_press};
 ghost use Rattle.cue_station.specs.Reading.{is_status};
 ghost use Rattle.cue_station.specs.Choosing as choosing;
 ghost use Rattle.cue_station.specs.declared.memory.Question.{Question};
@@ -11,12 +10,13 @@ ghost use Rattle.cue_station.specs.Noting as noting;
 
 use crate::asking::followed_on;
 use crate::choosing::{acknowledged_by, awaited, chosen_by_order, chosen_by_press, chosen_number};
+use crate::evidence::newest_in;
 use crate::heard::{Heard, Send};
 use crate::hearing::{answered_with, question_with};
 use crate::lighting::{Footing, differs_by, stands_by};
 use crate::memory::{Answered, Choice, Notes, Pending, Question, Reading, Shown};
 use crate::moving::{moved_by, place_by};
-use crate::opening::{are_none, if_open, is_none_final, is_one_ask};
+use crate::opening::{are_none, going_by, if_open, is_none_final, is_one_ask};
 use crate::remembering::{differs_with, failed_with, nobody_with, trouble_with};
 use cue_desk::orders::DeskCommand;
 use cue_view::button::Button;
@@ -137,6 +137,7 @@ pub(crate) fn footing_by(notes: &Notes, reading: &Option<Reading>, at: u64, wall
         wall,
         stands: stands_by(at, &notes.answered, reading),
         chosen: chosen_number(notes.choice),
+        going: going_by(&open),
         is_quiet: are_none(&open, &notes.beside),
         is_calm: is_none_final(&open, &notes.beside),
     }
@@ -155,15 +156,17 @@ fn beside_after(notes: &Notes, reading: &Option<Reading>) -> Option<Pending>
 // The press that was sent is the newest, and the one before it is beside it, if that is open.
 fn with_press(notes: &Notes, at: u64, button: &Button, ask: u64, reading: &Option<Reading>) -> Notes
     ensures { result ≡ noting.with_press reading.now
-        (record { at = at; ask = ask; button = button.now; answer = None; settled = None } ∷ []) notes.now }
+        (fresh at ask (newest_in reading.now) button.now ∷ []) notes.now }
 {
     Notes {
         press: Some(Pending {
             at,
             ask,
             button: *button,
+            before: newest_in(reading),
             answer: None,
             settled: None,
+            shown: false,
         }),
         beside: beside_after(notes, reading),
         ..*notes
@@ -182,7 +185,7 @@ fn is_status(order: &DeskCommand) -> bool
 
 // What is noted of the press, if the message is that of one.
 fn with_sent(notes: &Notes, at: u64, heard: &Heard, send: &Send, reading: &Option<Reading>) -> Notes
-    ensures { result ≡ noting.with_press reading.now (sent_press heard.now at (Some send.now)) notes.now }
+    ensures { result ≡ noting.with_press reading.now (sent_press heard.now at reading.now (Some send.now)) notes.now }
 {
     if is_status(&send.order) {
         return *notes;

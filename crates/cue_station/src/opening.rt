@@ -1,7 +1,6 @@
 //! Which presses are open, of the two that are kept.
 ghost use Rattle.std.specs.Prelude.{◌≡◌, ◌&&◌, ◌||◌, not, is_none};
 ghost use Rattle.cue_station.specs.Asking as asking;
-ghost use Rattle.cue_station.specs.Memory as memory;
 ghost use Rattle.cue_station.specs.Opening as opening;
 
 use crate::memory::{Pending, Reading, Word};
@@ -27,7 +26,7 @@ fn is_open(pending: &Pending, reading: &Option<Reading>) -> bool
 
 /// The press, if there is one and it is open.
 pub(crate) fn if_open(pending: &Option<Pending>, reading: &Option<Reading>) -> Option<Pending>
-    ensures { result ≡ memory.if_open reading.now pending.now }
+    ensures { result ≡ asking.if_open reading.now pending.now }
 {
     match pending {
         Some(pending) => if is_open(pending, reading) {
@@ -35,6 +34,27 @@ pub(crate) fn if_open(pending: &Option<Pending>, reading: &Option<Reading>) -> O
         } else {
             None
         },
+        None => None,
+    }
+}
+
+/// The attempt of a GO.
+pub(crate) fn go_number(button: Button) -> Option<u32>
+    ensures { result ≡ asking.go_number button }
+{
+    match button {
+        Button::Go(_, seq) => Some(seq),
+        Button::Standby(_) | Button::Cancel(_, _) | Button::Release(_, _) => None,
+        Button::MoveTo(_) | Button::Choose(_) | Button::Seen(_) => None,
+    }
+}
+
+/// The attempt of the press, if it is there and is a GO.
+pub(crate) fn going_by(pending: &Option<Pending>) -> Option<u32>
+    ensures { result ≡ asking.going_by pending.now }
+{
+    match pending {
+        Some(pending) => go_number(pending.button),
         None => None,
     }
 }

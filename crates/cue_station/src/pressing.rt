@@ -2,13 +2,16 @@
 ghost use Rattle.std.specs.Prelude.{◌≡◌, ◌&&◌, is_none};
 ghost use Rattle.std.specs.List.{list_any};
 ghost use Rattle.cue_station.specs.Lighting.{may_by};
+ghost use Rattle.cue_station.specs.Asking as asking;
 ghost use Rattle.cue_station.specs.Offering.{is_offered, is_recent};
 ghost use Rattle.cue_station.specs.Pressing as pressing;
 ghost use Rattle.cue_station.specs.Showing.{since_in};
 
 use crate::lighting::{Footing, may_by};
-use crate::memory::{Reading, Seen, Shown};
+use crate::limits::TAP_MS;
+use crate::memory::{Pending, Reading, Seen, Shown};
 use crate::offering::{is_offered, is_one_recent};
+use crate::opening::go_number;
 use cue_desk::orders::DeskCommand;
 use cue_operator::CueVerb;
 use cue_view::button::Button;
@@ -28,31 +31,56 @@ pub(crate) fn order_of(button: Button) -> Option<DeskCommand>
     }
 }
 
-/// Why the press of a button of a view is not heeded, if it is not: the view is old, had it dark, or it may no longer
-/// be lit.
+// Whether it is a GO, within a second of the last press, which was a GO too.
+fn is_tap(at: u64, button: Button, press: &Option<Pending>) -> bool
+    ensures { result ≡ asking.is_tap at button press.now }
+{
+    match press {
+        Some(press) => {
+            go_number(button).is_some()
+                && (go_number(press.button).is_some() && at.saturating_sub(press.at) <= TAP_MS)
+        }
+        None => false,
+    }
+}
+
+// Why a press is not heeded, if it is not.
+fn refusal_by(tap: bool, recent: bool, offered: bool, may: bool) -> Option<Unsent>
+    ensures { result ≡ pressing.refusal_by tap recent offered may }
+{
+    if offered && may {
+        None
+    } else if tap {
+        Some(Unsent::Again)
+    } else if offered {
+        Some(Unsent::Changed)
+    } else if recent {
+        Some(Unsent::Dark)
+    } else {
+        Some(Unsent::Old)
+    }
+}
+
+/// Why the press of a button of a view is not heeded, if it is not: it is the second tap of a GO, the view is old or had
+/// it dark, or it may no longer be lit. `press`: the last that was sent.
 pub(crate) fn refusal_of(
     views: &[Shown],
     view: u64,
     button: &Button,
+    press: &Option<Pending>,
     reading: &Option<Reading>,
     seen: &[Seen],
     footing: &Footing,
 ) -> Option<Unsent>
     ensures heeded { is_none result ≡ (is_offered view footing.now.at button.now views.now
         && may_by footing.now (since_in seen.now) reading.now button.now) }
-    ensures why { result ≡ pressing.refusal_by (list_any (is_recent view footing.now.at) views.now)
+    ensures why { result ≡ pressing.refusal_by (asking.is_tap footing.now.at button.now press.now) (list_any (is_recent view footing.now.at) views.now)
         (is_offered view footing.now.at button.now views.now)
         (may_by footing.now (since_in seen.now) reading.now button.now) }
 {
-    if !is_offered(views, view, footing.at, *button) {
-        if is_one_recent(views, view, footing.at) {
-            Some(Unsent::Dark)
-        } else {
-            Some(Unsent::Old)
-        }
-    } else if !may_by(*button, reading, seen, *footing) {
-        Some(Unsent::Changed)
-    } else {
-        None
-    }
+    let tap = is_tap(footing.at, *button, press);
+    let recent = is_one_recent(views, view, footing.at);
+    let offered = is_offered(views, view, footing.at, *button);
+    let may = may_by(*button, reading, seen, *footing);
+    refusal_by(tap, recent, offered, may)
 }

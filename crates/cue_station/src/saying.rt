@@ -1,10 +1,11 @@
-//! What is said of the last press that was sent. That a STANDBY was made is said while its cue stands by: a green line
-//! of a standby that was lost would be believed.
+//! What is said of the last press that was sent. That it was carried out is said once a copy shows it, and of a STANDBY
+//! while its cue stands by: a green line that is not so would be believed.
 ghost use Rattle.std.specs.Prelude.{◌≡◌};
 ghost use Rattle.std.specs.Option.{option_map, option_map_or};
 ghost use Rattle.cue_exchange.specs.Answers.{is_cancelling};
 ghost use Rattle.cue_exchange.specs.Live.{attempt_of_cue};
 ghost use Rattle.cue_station.specs.Asking as asking;
+ghost use Rattle.cue_station.specs.declared.memory.Word.{Word};
 
 use crate::heard::Copied;
 use crate::memory::{Pending, Reading, Word};
@@ -29,8 +30,8 @@ fn is_done(became: Became) -> bool
 {
     match became {
         Became::Made | Became::Known | Became::Carried => true,
-        Became::Open | Became::Over | Became::Refused(_) | Became::Partly(_) => false,
-        Became::Nobody | Became::Lost | Became::Unknown => false,
+        Became::Open | Became::Unshown | Became::Over | Became::Refused(_) => false,
+        Became::Partly(_) | Became::Nobody | Became::Lost | Became::Unknown => false,
     }
 }
 
@@ -83,11 +84,63 @@ fn is_over(pending: &Pending, reading: &Option<Reading>) -> bool
         && (is_read_later(pending.answer, reading) && has_ended(pending.button, reading))
 }
 
+// Whether the reply says that it was carried out, or was so already.
+fn is_said(became: Became) -> bool
+    ensures { result ≡ asking.is_said became }
+{
+    match became {
+        Became::Made | Became::Known => true,
+        Became::Open | Became::Unshown | Became::Over | Became::Refused(_) => false,
+        Became::Partly(_) | Became::Nobody | Became::Carried | Became::Lost => false,
+        Became::Unknown => false,
+    }
+}
+
+// Whether the reply says so, and no copy has shown it.
+fn is_unshown(pending: &Pending) -> bool
+    ensures { result ≡ asking.is_unshown pending.now }
+{
+    is_said(became_by(pending.answer, pending.settled)) && !pending.shown
+}
+
+// When the answer came.
+fn answered_at(answer: Option<Word>) -> Option<u64>
+    ensures { result ≡ option_map (λ (w : Word). w.at) answer }
+{
+    match answer {
+        Some(word) => Some(word.at),
+        None => None,
+    }
+}
+
+// Since when the reply says so, and no copy has shown it.
+fn unshown_since(pending: &Pending) -> Option<u64>
+    ensures { result ≡ asking.unshown_since pending.now }
+{
+    if is_unshown(pending) {
+        answered_at(pending.answer)
+    } else {
+        None
+    }
+}
+
+/// Since when the press is said to be carried out, and no copy has shown it.
+pub(crate) fn unshown_by(pending: &Option<Pending>) -> Option<u64>
+    ensures { result ≡ asking.unshown_by pending.now }
+{
+    match pending {
+        Some(pending) => unshown_since(pending),
+        None => None,
+    }
+}
+
 // What became of a press, by what is known now.
 fn became_now(pending: &Pending, reading: &Option<Reading>) -> Became
     ensures { result ≡ asking.became_now reading.now pending.now }
 {
-    if is_over(pending, reading) {
+    if is_unshown(pending) {
+        Became::Unshown
+    } else if is_over(pending, reading) {
         Became::Over
     } else {
         became_by(pending.answer, pending.settled)

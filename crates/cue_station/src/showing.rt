@@ -3,8 +3,10 @@ ghost use Rattle.std.specs.Prelude.{◌≡◌, IfOk, find, nat_eq};
 ghost use Rattle.std.specs.Map.{keys_of};
 ghost use Rattle.cue_station.specs.Showing as showing;
 
+use crate::asking::is_start_of;
 use crate::heard::Copied;
 use crate::memory::Seen;
+use cue_core::Event;
 use cue_core::limits::STANDBY_MS;
 use cue_exchange::Attempt;
 use cue_show::{CueNo, Show};
@@ -61,17 +63,53 @@ fn left_of(since: Option<u64>, at: u64, wall: u64, attempt: &Attempt) -> u64
     }
 }
 
+// Whether a cue is given.
+fn is_given(event: &Event) -> bool
+    ensures { result ≡ showing.is_given event.now }
+{
+    match event {
+        Event::Go(_) => true,
+        Event::Device(_, _) | Event::NoDevice(_) | Event::Cue(_, _) => false,
+        Event::NoCue(_) | Event::Place(_) | Event::Start(_, _, _) => false,
+        Event::Ready(_, _) | Event::Done(_, _) | Event::Cancel(_, _) => false,
+        Event::LetGo(_, _) | Event::Failed(_, _) | Event::Excuse(_, _) => false,
+    }
+}
+
+// One event more: whether a cue was given since the attempt was stood by.
+fn passed_by(seq: u32, event: &Event, old: bool) -> bool
+    ensures { result ≡ showing.passed_by seq event.now old }
+{
+    if is_start_of(seq, event) {
+        false
+    } else {
+        old || is_given(event)
+    }
+}
+
+// Whether a cue was given since the attempt was stood by, as far as the events tell.
+fn is_passed(seq: u32, events: &[Event]) -> bool
+    ensures { result ≡ showing.is_passed seq events.now }
+{
+    let mut passed = false;
+    for event in events {
+        passed = passed_by(seq, event, passed);
+    }
+    passed
+}
+
 // A live attempt as it is shown.
 fn shown_attempt(
     alloc: Global,
     attempt: &Attempt,
+    events: &[Event],
     seen: &[Seen],
     stands: bool,
     at: u64,
     wall: u64,
 ) -> Result<LiveAttempt, AllocError>
     ensures { IfOk result (λ shown. shown ≡ showing.shown_attempt stands
-        (showing.since_in seen.now) (showing.given_in seen.now) at wall attempt.now) }
+        (showing.since_in seen.now) (showing.given_in seen.now) events.now at wall attempt.now) }
 {
     let since = since_in(seen, attempt.seq);
     Ok(LiveAttempt {
@@ -82,6 +120,7 @@ fn shown_attempt(
         ready: stands && attempt.can_go() && is_in_time(since, at, wall, attempt),
         left: left_of(since, at, wall, attempt),
         given: given_in(seen, attempt.seq),
+        passed: attempt.stage.is_preparing() && is_passed(attempt.seq, events),
     })
 }
 
@@ -95,12 +134,13 @@ pub fn live_of(
     wall: u64,
 ) -> Result<Vec<LiveAttempt>, AllocError>
     ensures { IfOk result (λ live. live.items ≡ showing.shown_live stands
-        (showing.since_in seen.now) (showing.given_in seen.now) at wall copy.now.state.live) }
+        (showing.since_in seen.now) (showing.given_in seen.now) copy.now.events.items at wall
+        copy.now.state.live) }
 {
     let attempts = copy.state.live().as_slice();
     let mut live = Vec::with_capacity(alloc, attempts.len())?;
     for attempt in attempts {
-        live.push(shown_attempt(alloc, attempt, seen, stands, at, wall)?)?;
+        live.push(shown_attempt(alloc, attempt, &copy.events, seen, stands, at, wall)?)?;
     }
     Ok(live)
 }

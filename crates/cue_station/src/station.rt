@@ -164,6 +164,7 @@ impl Station {
                     &self.views,
                     *view,
                     button,
+                    &self.notes.press,
                     &self.reading,
                     &self.seen,
                     &footing,

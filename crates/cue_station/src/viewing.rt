@@ -14,7 +14,7 @@ use crate::lit::lit_of;
 use crate::memory::{Notes, Reading, Relayed, Seen};
 use crate::moving::{back_by, place_by};
 use crate::network::network_in;
-use crate::saying::said_by;
+use crate::saying::{said_by, unshown_by};
 use crate::showing::{live_of, stack_of};
 use crate::telling::{last_of, past_of};
 use cue_show::CueNo;
@@ -57,6 +57,7 @@ fn facts_of(notes: &Notes, reading: &Option<Reading>, relay: &Option<Relayed>, a
         trouble: notes.trouble,
         failed: notes.failed,
         acknowledged: notes.acknowledged,
+        unshown: unshown_by(&notes.press),
     }
 }
 

@@ -32,6 +32,8 @@ pub struct LiveAttempt {
     pub left: u64,
     /// Since when it is seen to be given.
     pub given: Option<u64>,
+    /// Another cue was given since it was stood by, as far as the events of the store tell.
+    pub passed: bool,
 }
 
 /// Devices, in the order of the events that name them.
@@ -80,8 +82,12 @@ pub struct Told {
 pub enum Became {
     /// Nobody has replied, and the store does not say yet.
     Open,
+    /// It was carried out, and a copy of the store shows it.
     Made,
+    /// It was so already, and a copy of the store shows it.
     Known,
+    /// The reply says that it was carried out, or was so already; no copy of the store shows it yet.
+    Unshown,
     /// A STANDBY that was made, of a cue that stands by no more.
     Over,
     Refused(i32),
@@ -114,6 +120,8 @@ pub enum Unsent {
     Dark,
     /// It is no longer lit.
     Changed,
+    /// It is a GO within a second of one that was sent: the second tap of one finger.
+    Again,
 }
 
 /// Why the store could not be read.
@@ -134,6 +142,9 @@ pub enum Alarm {
     Silent(Option<u64>),
     /// What is served is not what the store shows, since this moment.
     OtherStore(u64),
+    /// The reply of this moment says that the last press was carried out, and a copy that was begun a second later does
+    /// not show it.
+    NotShown(u64),
     /// The relay has written nothing new since this moment.
     RelayStopped(u64),
     /// The store is old, and cannot be read.

@@ -44,7 +44,7 @@ impl<R: Files<File = File> + Net + Clock + AllocGlobal> Panel<'_, R> {
         if is_undone(became) {
             self.passed = pending.passed;
         }
-        let is_open = became == Became::Open;
+        let is_open = matches!(became, Became::Open | Became::Unshown);
         let is_said = !is_open
             || (!pending.is_told && self.now.saturating_sub(pending.since) > OPEN);
         if is_said {

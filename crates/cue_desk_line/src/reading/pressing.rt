@@ -1,7 +1,8 @@
 //! The words `standby` and `go` without a number, and `go --wait`: a press at the desk.
 
-ghost use Rattle.std.specs.Prelude.{IfOk, IfSome, codes};
-ghost use Rattle.cue_desk_line.specs.Orders.{IsPressedBy};
+ghost use Rattle.std.specs.Prelude.{◌≡◌, ◌∷◌, ◌++◌, [], IfOk, IfSome, None, OnOk, Some, codes, map};
+ghost use Rattle.std.specs.Prelude.{option_map};
+ghost use Rattle.cue_desk_line.specs.Orders.{IsPressedBy, cue_word, cue_words};
 
 use super::arguments::{ASKER, Argument, Declared, PORT};
 use super::reporting::asker_in;
@@ -91,7 +92,9 @@ pub(super) const GO_COMMAND: Declared = Declared {
 };
 
 // The cue that stands there, if one does.
-fn some_cue_in(alloc: Global, found: &ArgMatches<'_>) -> Result<Option<CueNo>, LineFault> {
+fn some_cue_in(alloc: Global, found: &ArgMatches<'_>) -> Result<Option<CueNo>, LineFault>
+    ensures { IfOk result (λ cue. cue ≡ cue_word found.now) }
+{
     match found.get_str("CUE") {
         Some(text) => Ok(Some(cue_of(alloc, text)?)),
         None => Ok(None),
@@ -114,13 +117,17 @@ fn wait_in(alloc: Global, text: Option<&str>) -> Result<Option<u64>, LineFault> 
 }
 
 // One cue more.
-fn push_cue(cues: &mut Vec<CueNo>, cue: CueNo) -> Result<(), AllocError> {
+fn push_cue(cues: &mut Vec<CueNo>, cue: CueNo) -> Result<(), AllocError>
+    ensures { OnOk result (cues.new.items ≡ cues.old.items ++ cue ∷ []) }
+{
     cues.push(cue)?;
     Ok(())
 }
 
 // The cue that a word names, if it is not there yet.
-fn add_cue(alloc: Global, cues: &mut Vec<CueNo>, word: &str) -> Result<(), LineFault> {
+fn add_cue(alloc: Global, cues: &mut Vec<CueNo>, word: &str) -> Result<(), LineFault>
+    ensures { OnOk result (cues.new.items ≡ cues.old.items ++ word.now ∷ []) }
+{
     let cue = cue_of(alloc, word)?;
     if cues.contains(&cue) {
         return Err(unfit(alloc, word, "is named twice: name each cue once"));
@@ -130,7 +137,9 @@ fn add_cue(alloc: Global, cues: &mut Vec<CueNo>, word: &str) -> Result<(), LineF
 }
 
 // The cues that these words name, each once.
-fn cues_of(alloc: Global, words: &[&str]) -> Result<Vec<CueNo>, LineFault> {
+fn cues_of(alloc: Global, words: &[&str]) -> Result<Vec<CueNo>, LineFault>
+    ensures { IfOk result (λ cues. cues.items ≡ map (λ w. w.now) words.now) }
+{
     let mut cues: Vec<CueNo> = Vec::new(alloc);
     for word in words {
         add_cue(alloc, &mut cues, word)?;
@@ -145,7 +154,8 @@ fn stand_by_in(
     cue: CueNo,
     others: &[CueNo],
 ) -> Result<Line, LineFault>
-    ensures { IfOk result (IsPressedBy (codes "standby")) }
+    ensures { cue_words found.now ≡ Some (cue ∷ others.now)
+        → IfOk result (IsPressedBy (codes "standby") found.now) }
 {
     Ok(Line::StandBy {
         cue,
@@ -157,7 +167,8 @@ fn stand_by_in(
 
 // The command `standby` of several cues.
 fn together_in(alloc: Global, found: &ArgMatches<'_>, words: &[&str]) -> Result<Line, LineFault>
-    ensures { IfOk result (IsPressedBy (codes "standby")) }
+    ensures { cue_words found.now ≡ Some (map (λ w. w.now) words.now)
+        → IfOk result (IsPressedBy (codes "standby") found.now) }
 {
     let cues = cues_of(alloc, words)?;
     match cues.as_slice() {
@@ -167,7 +178,9 @@ fn together_in(alloc: Global, found: &ArgMatches<'_>, words: &[&str]) -> Result<
 }
 
 // The words of the command `standby` that name cues, if there are several.
-fn several<'a>(found: &'a ArgMatches<'_>) -> Option<&'a [&'a str]> {
+fn several<'a>(found: &'a ArgMatches<'_>) -> Option<&'a [&'a str]>
+    ensures { IfSome result (λ words. cue_words found.now ≡ Some (map (λ w. w.now) words.now)) }
+{
     match found.get_strs("CUE") {
         Some(words) if words.len() > 1 => Some(words),
         _ => None,
@@ -180,7 +193,7 @@ fn standby_in(
     found: &ArgMatches<'_>,
     environment: &Environment<'_>,
 ) -> Result<Line, LineFault>
-    ensures { IfOk result (IsPressedBy (codes "standby")) }
+    ensures { cue_word found.now ≡ None → IfOk result (IsPressedBy (codes "standby") found.now) }
 {
     let dir = found.get_str("store").or(environment.store);
     let dir = or_unfit(alloc, dir, "standby", NO_STORE)?;
@@ -200,7 +213,7 @@ fn go_in(
     found: &ArgMatches<'_>,
     environment: Option<&str>,
 ) -> Result<Line, LineFault>
-    ensures { IfOk result (IsPressedBy (codes "go")) }
+    ensures { IfOk result (IsPressedBy (codes "go") found.now) }
 {
     let intent = Intent::Go(some_cue_in(alloc, found)?);
     let dir = or_unfit(
@@ -228,7 +241,7 @@ pub fn pressed_in(
     found: &ArgMatches<'_>,
     environment: &Environment<'_>,
 ) -> Option<Result<Line, LineFault>>
-    ensures { IfSome result (λ line. IfOk line (IsPressedBy name.now)) }
+    ensures { IfSome result (λ line. IfOk line (IsPressedBy name.now found.now)) }
 {
     match name {
         "standby" if found.get_str("CUE").is_none() => {

@@ -14,8 +14,23 @@ pub struct Report {
     pub log: String,
     /// The show file, for names.
     pub file: String,
-    /// Whether it is told as a page.
-    pub html: bool,
+    /// As what it is told.
+    pub form: Form,
+    /// What the show is called; empty if that is not said.
+    pub title: String,
+    /// From which minute of the day to which; the whole day if that is not said.
+    pub from: Option<u16>,
+    pub to: Option<u16>,
+    /// How many minutes the clock on the wall is ahead of UTC.
+    pub ahead: i16,
+}
+
+/// As what an evening is told.
+#[derive(Clone, Copy, PartialEq, Eq, Debug)]
+pub enum Form {
+    Text,
+    Page,
+    Table,
 }
 
 /// The command `report`.
@@ -29,15 +44,97 @@ pub(super) const REPORT_COMMAND: Declared = Declared {
             "html",
             "As a page that stands alone, to look at and to print",
         ),
+        Argument::Flag(
+            "csv",
+            "As a table for a spreadsheet, a row for each attempt",
+        ),
+        Argument::OptionOf("title", "TITLE", "What the show is called"),
+        Argument::OptionOf("from", "HH:MM", "From this time of the day on"),
+        Argument::OptionOf("to", "HH:MM", "Up to this time of the day"),
+        Argument::OptionOf(
+            "zone",
+            "+HH:MM",
+            "How far the clock on the wall is ahead of UTC, as +01:00 in Vienna in winter; else the times are UTC",
+        ),
     ],
 };
+
+// The number that two digits are.
+fn two_digits(text: &str) -> Option<u16> {
+    match text.as_bytes() {
+        [tens, ones] if tens.is_ascii_digit() && ones.is_ascii_digit() => {
+            Some(u16::from(tens.saturating_sub(b'0')) * 10 + u16::from(ones.saturating_sub(b'0')))
+        }
+        _ => None,
+    }
+}
+
+// The minute of the day that a text is, as `19:30`.
+fn minute_of(text: &str) -> Option<u16> {
+    let (hours, minutes) = text.split_once(':')?;
+    let hours = two_digits(hours)?;
+    let minutes = two_digits(minutes)?;
+    if hours < 24 && minutes < 60 {
+        Some(hours * 60 + minutes)
+    } else {
+        None
+    }
+}
+
+// A minute of the day, if the command line says it.
+fn minute_in(alloc: Global, found: &ArgMatches<'_>, name: &str) -> Result<Option<u16>, LineFault> {
+    let Some(text) = found.get_str(name) else {
+        return Ok(None);
+    };
+    let wanted = "is no time of the day: write it as 19:30";
+    let minute = or_unfit(alloc, minute_of(text), text, wanted)?;
+    Ok(Some(minute))
+}
+
+// How many minutes ahead of UTC a text is, as `+01:00`.
+fn ahead_of(text: &str) -> Option<i16> {
+    let (is_behind, time) = match text.strip_prefix("-") {
+        Some(time) => (true, time),
+        None => (false, text.strip_prefix("+")?),
+    };
+    let minutes = i16::try_from(minute_of(time)?).ok()?;
+    if is_behind {
+        minutes.checked_neg()
+    } else {
+        Some(minutes)
+    }
+}
+
+// How many minutes the clock on the wall is ahead of UTC.
+fn ahead_in(alloc: Global, found: &ArgMatches<'_>) -> Result<i16, LineFault> {
+    let Some(text) = found.get_str("zone") else {
+        return Ok(0);
+    };
+    let wanted = "is no distance from UTC: write it as +01:00 or -05:00";
+    or_unfit(alloc, ahead_of(text), text, wanted)
+}
+
+// As what it is told.
+fn form_in(found: &ArgMatches<'_>) -> Form {
+    if found.get_flag("csv") {
+        Form::Table
+    } else if found.get_flag("html") {
+        Form::Page
+    } else {
+        Form::Text
+    }
+}
 
 /// The command `report`, with what stands after it.
 pub fn report_in(alloc: Global, found: &ArgMatches<'_>) -> Result<Line, LineFault> {
     Ok(Line::Report(Report {
         log: text_in(alloc, found, "LOG")?,
         file: text_in(alloc, found, "FILE")?,
-        html: found.get_flag("html"),
+        form: form_in(found),
+        title: String::from_str(alloc, found.get_str("title").unwrap_or(""))?,
+        from: minute_in(alloc, found, "from")?,
+        to: minute_in(alloc, found, "to")?,
+        ahead: ahead_in(alloc, found)?,
     }))
 }
 

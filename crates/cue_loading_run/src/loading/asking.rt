@@ -9,7 +9,7 @@ use cue_desk::ending::Ending;
 use cue_desk::hearing::reply_in;
 use cue_desk::replying::{Replied, Status};
 use cue_loading::live_words;
-use cue_saying::say;
+use cue_saying::{Shown, say};
 use cue_show::CueNo;
 use cue_show_file::Subject;
 use cue_words::code_words;
@@ -226,6 +226,7 @@ impl<'a, R: Net + Eprint + AllocGlobal> Asker<'a, R> {
 
     /// Says that the controller serves another store than that of this folder.
     pub fn say_other_store(&self, dir: &str) {
+        let dir = Shown { text: dir };
         let port = self.port;
         say(
             self.rt,

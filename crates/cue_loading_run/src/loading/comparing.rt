@@ -5,7 +5,7 @@ use cue_desk::ending::Ending;
 use cue_desk::replying::Status;
 use cue_files_run::open_store;
 use cue_loading::{Difference, differences};
-use cue_saying::say;
+use cue_saying::{Shown, say};
 use cue_show::{CueNo, DeviceNo, Show};
 use cue_show_file::{Subject, cue_text};
 use std::fs::{File, Files};
@@ -156,6 +156,7 @@ impl<'a, R: Files<File = File> + Net + Eprint + AllocGlobal> Asker<'a, R> {
 
 // Says of a device or a cue that it is in the one and not in the other.
 fn say_missing<R: Eprint>(rt: &R, subject: Subject, there: &str, not_there: &str) {
+    let (there, not_there) = (Shown { text: there }, Shown { text: not_there });
     say(
         rt,
         format_args!("{subject} is in {there} and not in {not_there}"),
@@ -164,7 +165,7 @@ fn say_missing<R: Eprint>(rt: &R, subject: Subject, there: &str, not_there: &str
 
 // Says that a device has another port than the file says.
 fn say_port<R: Eprint>(rt: &R, path: &str, device: DeviceNo, port: u16) {
-    let subject = Subject::Device(device);
+    let (subject, path) = (Subject::Device(device), Shown { text: path });
     say(
         rt,
         format_args!("{subject} has port {port} in the store, and another one in {path}"),
@@ -174,6 +175,7 @@ fn say_port<R: Eprint>(rt: &R, path: &str, device: DeviceNo, port: u16) {
 // Says where the stack has another order than the file.
 fn say_order<R: Eprint>(rt: &R, path: &str, cue: CueNo, other: CueNo) {
     let (cue, other) = (cue_text(&cue), cue_text(&other));
+    let path = Shown { text: path };
     say(
         rt,
         format_args!(
@@ -192,14 +194,17 @@ fn say_difference<R: Eprint>(rt: &R, path: &str, difference: Difference) {
         Difference::MissingCue(cue) => say_missing(rt, Subject::Cue(cue), path, store),
         Difference::OtherPort(device, port) => say_port(rt, path, device, port),
         Difference::OtherParts(cue) => {
-            let subject = Subject::Cue(cue);
+            let (subject, path) = (Subject::Cue(cue), Shown { text: path });
             say(
                 rt,
                 format_args!("{subject} has other parts in the store than in {path}"),
             );
         }
         Difference::OtherOrder(cue, other) => say_order(rt, path, cue, other),
-        Difference::Otherwise => say(rt, format_args!("the store is not what {path} says")),
+        Difference::Otherwise => {
+            let path = Shown { text: path };
+            say(rt, format_args!("the store is not what {path} says"));
+        }
     }
 }
 
@@ -222,7 +227,12 @@ fn is_left(difference: Difference) -> bool {
 
 // Says what to do about these differences.
 fn say_ways<R: Eprint>(rt: &R, compared: Compared<'_>, found: &[Difference]) {
-    let Compared { path, dir, .. } = compared;
+    let (path, dir) = (
+        Shown {
+            text: compared.path,
+        },
+        Shown { text: compared.dir },
+    );
     if found.iter().any(|difference| !is_left(*difference)) {
         say(
             rt,

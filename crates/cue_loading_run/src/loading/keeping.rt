@@ -2,7 +2,7 @@
 use super::{Loaded, Loading};
 use cue_desk::ending::Ending;
 use cue_loading::{Difference, Manner, differences};
-use cue_saying::say;
+use cue_saying::{Shown, say};
 use cue_show::Show;
 use cue_show_file::{of_show, written};
 use std::alloc::{AllocError, Global};
@@ -162,20 +162,23 @@ fn text_of(alloc: Global, stored: &Show, port: u16) -> Result<String, AllocError
 }
 
 impl<'a, R: Files<File = File> + Net + Eprint + AllocGlobal, W: Write> Loading<'a, R, W> {
-    // Says what became of the keeping, and how to take the load back.
+    // Says what became of the keeping, and how to take the load back; whether it is kept.
     fn tell_kept(
         &mut self,
         what: Loaded<'_>,
         dir: &str,
         kept: &io::Result<Kept>,
-    ) -> Result<(), Ending> {
-        let beside = what.path;
+    ) -> Result<bool, Ending> {
+        let (beside, dir) = (Shown { text: what.path }, Shown { text: dir });
         match kept {
             Ok(Kept::In(path)) => {
-                let path = path.as_str();
-                return self.progress.print(format!(in self.asker.alloc();
+                let path = Shown {
+                    text: path.as_str(),
+                };
+                self.progress.print(format!(in self.asker.alloc();
                     "what the store had is in {path}; back: cuedesk load {path} {dir} --exact\n"
-                ));
+                ))?;
+                return Ok(true);
             }
             Ok(Kept::Full) => say(
                 self.asker.rt(),
@@ -189,11 +192,25 @@ impl<'a, R: Files<File = File> + Net + Eprint + AllocGlobal, W: Write> Loading<'
                 format_args!("what the store had is NOT kept beside {beside}: {why}"),
             ),
         }
-        Ok(())
+        Ok(false)
+    }
+
+    // Goes on after the keeping, or says that nothing is replaced.
+    fn go_on(&mut self, manner: Manner, is_kept: bool) -> Result<(), Ending> {
+        if manner.goes_on(is_kept) {
+            return Ok(());
+        }
+        self.progress.clear();
+        say(
+            self.asker.rt(),
+            "so nothing is replaced: make room there, or load a copy of the show file from another folder",
+        );
+        Err(Ending::Failed)
     }
 
     /// Keeps what the store had, if the load changes it, and says how to take it back; of an empty store nothing is
-    /// kept. If no file can be written, that is said, and the load goes on.
+    /// kept. If no file can be written, that is said; then a load that only adds goes on, and one that would take
+    /// something out of the store ends.
     pub(super) fn keep(
         &mut self,
         what: Loaded<'_>,
@@ -208,6 +225,7 @@ impl<'a, R: Files<File = File> + Net + Eprint + AllocGlobal, W: Write> Loading<'
         let text = text_of(alloc, stored, self.asker.port())?;
         let kept = keep_text(self.asker.rt(), stem_of(what.path), text.as_str());
         drop(text);
-        self.tell_kept(what, dir, &kept)
+        let is_kept = self.tell_kept(what, dir, &kept)?;
+        self.go_on(what.manner, is_kept)
     }
 }

@@ -84,9 +84,11 @@ fn removes(step: &Step) -> bool {
 
 // The code by which a step was refused.
 fn refusal_of(step: &Step, answered: Answered) -> Option<i32> {
+    if removes(step) {
+        return refusal_of_removal(answered);
+    }
     match answered {
-        Answered::Refused(code) if !removes(step) => Some(code),
-        Answered::Refused(_) => refusal_of_removal(answered),
+        Answered::Refused(code) => Some(code),
         Answered::Made | Answered::Known => None,
     }
 }

@@ -16,6 +16,7 @@ fn kind_of(alarm: Alarm) -> &'static str
     match alarm {
         Alarm::NobodyListens | Alarm::Silent(_) => "silent",
         Alarm::OtherStore(_) => "other",
+        Alarm::NotShown(_) => "unshown",
         Alarm::RelayStopped(_) => "relay",
         Alarm::Unread(_) | Alarm::Old(_) => "old",
         Alarm::ClockPutBack(_) => "clock",
@@ -34,6 +35,7 @@ fn subject_of(alarm: Alarm) -> u64
         Alarm::NobodyListens
         | Alarm::Silent(_)
         | Alarm::OtherStore(_)
+        | Alarm::NotShown(_)
         | Alarm::RelayStopped(_)
         | Alarm::Unread(_)
         | Alarm::Old(_) => 0,

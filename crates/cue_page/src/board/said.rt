@@ -16,6 +16,7 @@ fn kind_of(became: Became) -> &'static str
     match became {
         Became::Open => "open",
         Became::Made | Became::Known | Became::Carried => "made",
+        Became::Unshown => "said",
         Became::Over => "over",
         Became::Refused(_) | Became::Partly(_) => "refused",
         Became::Nobody | Became::Lost | Became::Unknown => "refused",
@@ -42,12 +43,24 @@ pub(super) fn said_value(alloc: Global, press: Option<Said>, port: u16) -> Resul
     }
 }
 
+// Whether the press was refused, or was one press with the GO before it.
+fn unsent_kind(unsent: Unsent) -> &'static str
+    ensures { result.now ≡ said.unsent_kind unsent }
+{
+    match unsent {
+        Unsent::Again => "again",
+        Unsent::Old | Unsent::Dark | Unsent::Changed => "refused",
+    }
+}
+
 /// Why a press was not sent; null if each was.
 pub(super) fn unsent_value(alloc: Global, unsent: Option<Unsent>) -> Result<Value, AllocError>
     ensures { IfOk result (λ v. view v ≡ said.unsent_data unsent) }
 {
     match unsent {
-        Some(unsent) => Ok(Value::String(String::from_str(alloc, unsent_words(unsent))?)),
+        Some(unsent) => {
+            json!(in alloc; {"kind": unsent_kind(unsent), "words": unsent_words(unsent)})
+        }
         None => Ok(Value::Null),
     }
 }

@@ -6,7 +6,7 @@ pub(super) const ALARMS: &str = r#"
 let spoken = "";
 
 function endWords(told) {
-  const failed = told.failed.length ? ": device " + devicesWords(told.failed) + " aborted" : "";
+  const failed = failedWords(told.failed);
   const without = told.excused.length ? " without device " + devicesWords(told.excused) : "";
   return cueWords(told) + ": " + told.outcome + (told.reason ? ": " + told.reason : "") + failed + without;
 }
@@ -15,17 +15,29 @@ function endWords(told) {
 function faultWords(attempt) {
   const failed = attempt.devices.filter((one) => one.answer === "failed").map((one) => one.device);
   const fault = attempt.reason ? " lost its standby: " + attempt.reason : " fails", waits = waitedFor(attempt);
-  const how = attempt.reason ? " aborted" : " aborted, or was released";
-  const rest = waits.length ? "; still waiting for " + devicesWords(waits) : "";
-  return cueWords(attempt) + fault + (failed.length ? ": device " + devicesWords(failed) + how : "") + rest;
+  const rest = waits.length ? "; still waiting for device " + devicesWords(waits) : "";
+  return cueWords(attempt) + fault + failedWords(failed) + rest;
 }
+
+// What moves by itself once what is missing is back: a cue that was given waits for it. `isOf`: whether the device is
+// meant.
+function owedWords(isOf) {
+  const given = view.live.filter((one) => one.stage === "given" && waitedFor(one).some(isOf));
+  const each = given.map((one) => "device " + devicesWords(waitedFor(one).filter(isOf)) + " (cue " + one.cue + ")");
+  return each.length ? "; when it is back, this moves at once: " + each.join(", ")
+    + ". Release first what must not move" : "";
+}
+
+const BACK = { relay: () => true, silent: () => true };
 
 function alarmWords(alarm) {
   const live = alarm.kind === "failed" && view.live.find((one) => one.attempt === alarm.of);
   if (live) return faultWords(live);
   const told = alarm.kind === "failed" && [view.last, ...view.past].find((one) => one && one.attempt === alarm.of);
   if (told) return endWords(told);
-  return alarm.kind === "device" ? "device " + called(alarm.of, deviceName(alarm.of)) + " is silent" : alarm.words;
+  if (alarm.kind === "device")
+    return "device " + called(alarm.of, deviceName(alarm.of)) + " is silent" + owedWords((one) => one === alarm.of);
+  return alarm.words + (BACK[alarm.kind] ? owedWords(BACK[alarm.kind]) : "");
 }
 
 function alarmLine(alarm, index) {
@@ -38,7 +50,7 @@ function alarmLine(alarm, index) {
 }
 
 const DESK = { kind: "desk", of: 0, words: "The desk does not answer: nothing here is of now." };
-const alarmsNow = () => isDark() ? [DESK] : view.alarms;
+const alarmsNow = () => isDark() ? [DESK] : [...view.alarms, ...movingAlarms()];
 
 function showAlarms() {
   const all = alarmsNow();
@@ -66,7 +78,7 @@ function showEnds() {
 // What a screen reader is told when it changes: what is wrong, and how far each cue is.
 function showSpoken() {
   const cues = view.live.map((attempt) => "Cue " + attempt.cue + " " + stageWords(attempt));
-  const wrong = view.alarms.map((alarm) => alarmWords(alarm).replace(/:? [^:]*\d\.\d s.*$/, ""));
+  const wrong = alarmsNow().map((alarm) => alarmWords(alarm).replace(/:? [^:]*\d\.\d s.*$/, ""));
   const words = [...wrong, ...cues].join(". ") || "Nothing is stood by";
   if (words !== spoken) { spoken = words; at("spoken").textContent = words; }
 }

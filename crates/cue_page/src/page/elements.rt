@@ -8,7 +8,7 @@ const at = (id) => document.getElementById(id);
 const now = () => performance.now();
 let run = null, view = null, heard = 0, names = { cues: new Map(), devices: new Map() };
 let manner = { locked: false, readonly: false, told: null };
-let sure = { press: "", until: 0 }, note = { words: "", kind: "", until: 0 };
+let sure = { press: "", until: 0 };
 const shown = {};
 
 // An element with a class and a text.
@@ -44,7 +44,8 @@ const deviceName = (device) => names.devices.get(device) || "";
 const called = (number, name) => name ? number + " " + name : "" + number;
 const cueWords = (told) => told.cue === null ? "attempt " + told.attempt : "cue " + called(told.cue, cueName(told.cue));
 const withWords = (cues) => cues.length ? " with " + cues.join(", ") : "";
-const devicesWords = (devices) => devices.map((device) => called(device, deviceName(device))).join(", ");
+// A name may have a comma: so a list of devices has semicolons.
+const devicesWords = (devices) => devices.map((device) => called(device, deviceName(device))).join("; ");
 
 // What the show file marks a cue with: a sign of its flag with the word, and a bar of its colour with the word.
 const FLAGS = { danger: "\u26a0 DANGER", fly: "\u25b2 FLY", trap: "\u25bc TRAP" };

@@ -1,35 +1,55 @@
-//! The three great buttons, and the line above them: what became of a press, and why a button is dark.
+//! The three great buttons, and why one of them is dark.
 
 /// The text of a `script`.
 pub(super) const GREAT: &str = r#"
 "use strict";
 const KEYS = "S is STANDBY, space is GO, Esc is CANCEL, R twice releases who GO waits for.";
 
+// The button that is lit, if it may be pressed in this window: GO only of what was chosen here.
+const keyOf = (id) => id !== "go" || isOwn() ? litOf(id, () => true) : undefined;
+
 function showKey(id, dark) {
-  const lit = litOf(id, () => true);
+  const lit = keyOf(id);
   if (at(id).disabled === !!lit) at(id).disabled = !lit;
   write(id + "-cue", lit ? "cue " + lit.cue + (id === "standby" ? withWords(view.next.with) : "") : dark);
 }
 
 const chosenAttempt = () => view.live.find((attempt) => attempt.attempt === view.chosen && isOpen(attempt));
 
+// What keeps each button dark: the desk, the controller or the store does not answer.
+const loudest = () =>
+  isDark() ? DESK : view.alarms.find((alarm) => ["silent", "other", "old"].includes(alarm.kind));
+
+// A press that is open: no other one is sent meanwhile.
+const openWords = () =>
+  view.said && view.said.kind === "open" ? view.said.press + " is open still" : "serve has not answered yet";
+
+// What GO or CANCEL has no attempt for; null if one is chosen.
+function whyNone(id) {
+  if (!view.live.some(isOpen)) return id === "cancel" && view.live.length ? "no cue prepares" : "no cue is stood by";
+  return chosenAttempt() ? null : "no cue is chosen: press Choose for GO on its card";
+}
+
 // For whom GO waits, or what it lacks.
-function whyDark() {
-  const loud = isDark() ? DESK : view.alarms.find((alarm) => ["silent", "other", "old"].includes(alarm.kind));
-  if (loud) return loud.words;
-  const chosen = chosenAttempt();
-  if (!view.live.some(isOpen)) return "no cue is stood by";
-  if (!chosen) return "no cue is chosen: press Choose for GO on its card";
+function whyNoGo(chosen) {
+  if (!isOwn()) return "cue " + chosen.cue + " was chosen in another window: press Choose for GO on its card";
   if (chosen.stage === "over") return "the ten seconds of cue " + chosen.cue + " are over";
   const waits = waitedFor(chosen);
-  if (waits.length) return "cue " + chosen.cue + " waits for device " + devicesWords(waits);
-  return view.said && view.said.kind === "open" ? view.said.press + " is open still" : "serve has not answered yet";
+  return waits.length ? "cue " + chosen.cue + " waits for device " + devicesWords(waits) : openWords();
+}
+
+// Why this button is dark: a reason of its own.
+function whyDark(id) {
+  const loud = loudest();
+  if (loud) return loud.words;
+  if (id === "standby") return view.next.why || openWords();
+  return whyNone(id) || (id === "go" ? whyNoGo(chosenAttempt()) : openWords());
 }
 
 // The release of the one device that keeps GO of the chosen cue waiting, and what it does; else why there is none.
 function lastWaiter() {
   const chosen = isDark() ? undefined : chosenAttempt();
-  if (!chosen) return { why: whyDark() };
+  if (!chosen) return { why: whyDark("go") };
   const waits = chosen.devices.filter((one) => one.answer === "waiting"), [one] = waits;
   if (!waits.length) return { why: "cue " + chosen.cue + " waits for no device" };
   if (waits.length > 1)
@@ -37,26 +57,15 @@ function lastWaiter() {
   const lit = litOf("release", (some) => some.attempt === chosen.attempt && some.device === one.device);
   const then = one.optional ? "cue " + chosen.cue + " goes without it" : "cue " + chosen.cue + " is cancelled by it";
   return lit ? { lit, words: "device " + called(one.device, deviceName(one.device)) + " (" +
-    (one.optional ? "optional" : "required") + "): " + then } : { why: whyDark() };
+    (one.optional ? "optional" : "required") + "): " + then } : { why: openWords() };
 }
 
 // What stands on GO while it is dark: for whom it waits.
 function goWords() {
   const chosen = isDark() ? undefined : chosenAttempt(), waits = chosen ? waitedFor(chosen) : [];
+  if (chosen && !isOwn()) return "chosen in another window";
   if (!waits.length) return "not lit";
   return "waits for " + (waits.length > 2 ? waits.length + " devices" : devicesWords(waits));
-}
-
-// A press in words: STANDBY of the next cue names those that stand by together with it.
-function pressWords(press) {
-  const isNext = view.next.cue !== null && press === "standby " + view.next.cue;
-  return press + (isNext ? withWords(view.next.with) : "");
-}
-
-function showWords() {
-  const said = view && view.said, noted = now() < note.until;
-  at("words").className = noted ? note.kind : said ? said.kind : "";
-  write("words", noted ? note.words : said ? pressWords(said.press) + ": " + said.words : KEYS);
 }
 
 function showKeys() {

@@ -68,8 +68,10 @@ function sinceLine(attempt) {
 
 // Which attempt GO and CANCEL are for stands in words.
 function choice(attempt) {
-  if (view.chosen === attempt.attempt) return make("p", "is-chosen", "\u25c6 CHOSEN for GO and CANCEL");
+  const isChosen = view.chosen === attempt.attempt;
+  if (isChosen && (isOwn() || manner.readonly)) return make("p", "is-chosen", "\u25c6 CHOSEN for GO and CANCEL");
   const lit = litOf("choose", (one) => one.attempt === attempt.attempt);
+  if (isChosen && !lit) return make("p", "is-chosen", "\u25c6 chosen in another window");
   return button("choose-" + attempt.attempt, "Choose for GO", "Choose cue " + attempt.cue + " for GO and CANCEL", lit);
 }
 
@@ -102,7 +104,7 @@ function liveCards() {
 
 function showLive() {
   const live = view.live.map((attempt) => ({ ...attempt, left: 0, given: attempt.given !== null }));
-  const lit = [isHeld(), view.lit, sure.press, renamed];
+  const lit = [isHeld(), view.lit, sure.press, renamed, own];
   place("live", liveCards, JSON.stringify([live, view.chosen, view.network.length > 0, lit]));
 }
 "#;

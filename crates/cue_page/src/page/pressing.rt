@@ -4,11 +4,9 @@
 /// The text of the last `script`.
 pub(super) const PRESSING: &str = r#"
 "use strict";
-const POLL = 250, NOTED = 6000, LOCKED = 423, CLOSED = 429, TAP = 1000;
+const POLL = 250, LOCKED = 423, CLOSED = 429;
 const token = document.querySelector("meta[name=cuedesk-token]").content;
 let namesText = "";
-const NO_GO = { press: "", at: -Infinity };
-let lastGo = NO_GO;
 
 // The names of a view; if they are those of before, nothing that shows them is made anew.
 function takeNames(told) {
@@ -23,39 +21,18 @@ function takeNames(told) {
 // A view that came: an older one than that which is drawn is never drawn, and one of another run loads the page again.
 function take(told) {
   if (run !== null && told.run !== run) { location.reload(); return; }
+  const isFirst = run === null;
   run = told.run;
+  if (isFirst) recallOwn();
   if (view && told.view.number <= view.number) return;
   view = told.view;
   heard = now();
+  followChoice();
+  followMoving();
   manner = { locked: told.locked, readonly: told.readonly, told: told.told };
   takeNames(told.names);
   if (now() > sure.until) sure = { press: "", until: 0 };
   draw();
-}
-
-function say(words, kind, millis) {
-  note = { words, kind, until: now() + millis };
-  showWords();
-}
-
-// What became of the GO that was sent from here less than a second ago, if it was not refused: a foot switch bounces.
-function lastTap() {
-  const said = view && view.said && view.said.press === lastGo.press ? view.said.kind : "open";
-  return now() - lastGo.at < TAP && (said === "open" || said === "made") ? said : null;
-}
-
-// A second tap of that GO is the same press, and says so: it gives no cue, and refuses none.
-function sayTap(kind) {
-  const cue = "cue " + lastGo.press.split(" ")[1];
-  const isMade = kind === "made";
-  say((isMade ? "GO was given for " : "GO is pressed for ") + cue + "; the second tap did nothing", kind,
-    isMade ? NOTED : TAP);
-}
-
-// A press that was not sent.
-function notGiven(press, why) {
-  if (press === lastGo.press) lastGo = NO_GO;
-  say(press + ": " + why, "refused", NOTED);
 }
 
 // What an answer says that carries nothing out.
@@ -65,6 +42,17 @@ async function refused(press, reply) {
   notGiven(press, told.words);
   if (reply.status === LOCKED) askWord(press, told.words + ". " + press + " wants it:");
   if (reply.status === CLOSED) forget();
+}
+
+// What the desk answered to a press: it was sent, it was the second tap of a GO, or it was not sent.
+function unsent(press, told) {
+  const why = told.view.unsent;
+  if (why && why.kind === "again") { sayTap(); return; }
+  if (why) { notGiven(press, why.words); return; }
+  ownPress(press, told);
+  followChoice();
+  say("", "", 0);
+  showLive();
 }
 
 // Reports a press of the view that is drawn. What became of it stands in the views that follow.
@@ -80,8 +68,7 @@ async function send(press) {
     if (!reply.ok) { await refused(press, reply); return; }
     const told = await reply.json();
     take(told);
-    if (told.view.unsent) notGiven(press, told.view.unsent);
-    else say("", "", 0);
+    unsent(press, told);
   } catch (error) {
     notGiven(press, "the desk does not answer; look at what is shown before you press again");
   }
@@ -89,18 +76,28 @@ async function send(press) {
 
 // A key or a great button: the lit one of the view that is drawn.
 function press(id) {
-  const tap = id === "go" ? lastTap() : null;
-  if (tap) { sayTap(tap); return; }
-  const lit = litOf(id, () => true);
+  if (id === "go" && isTap()) { sayTap(); return; }
+  const lit = keyOf(id), why = lit ? "" : whyDark(id);
   if (lit) send(lit.press);
-  else say(id.toUpperCase() + " is not lit: " + (id === "standby" && view ? view.next.why || whyDark() : whyDark()),
-    "refused", NOTED);
+  else say(id.toUpperCase() + " is not lit: " + why, "refused", NOTED, () => !keyOf(id) && whyDark(id) === why);
 }
+
+// A space that goes into a field gives no GO, and says so while a cue waits for one.
+function fieldKey(event) {
+  if (event.key === " " && !event.repeat && view && view.live.some(isOpen))
+    say("The space went into the field, and gave no GO: press Esc, then the key", "refused", NOTED,
+      () => document.activeElement instanceof HTMLInputElement);
+}
+
+for (const id of ["find", "lock-word"]) at(id).addEventListener("keydown", fieldKey);
 
 // The key R: the one device that keeps GO waiting is released by a second press within three seconds.
 function pressRelease() {
   const { lit, words, why } = lastWaiter();
-  if (!lit) { say("R releases no device: " + why, "refused", NOTED); return; }
+  if (!lit) {
+    say("R releases no device: " + why, "refused", NOTED, () => lastWaiter().why === why);
+    return;
+  }
   if (!(sure.press === lit.press && now() < sure.until)) say("Press R again to release " + words, "open", SURE);
   pressTwice(lit.press);
 }

@@ -4,7 +4,8 @@
 /// The text of a `script`.
 pub(super) const SOUNDING: &str = r#"
 "use strict";
-const CALLING = ["failed", "device", "silent", "desk"], HIGH = 880, LOW = 587, TONE = 0.2, FLASH = 2400, FIRST = 2500;
+const CALLING = ["failed", "moving", "device", "silent", "unshown", "desk"];
+const HIGH = 880, LOW = 587, TONE = 0.2, FLASH = 2400, FIRST = 2500;
 let calledOut = new Set(), flashUntil = 0, audio = null, isAllowed = false, isWaking = false, sounded = 0;
 let wantsSound = recall("sound") !== "off";
 

@@ -1,7 +1,8 @@
 //! Who asks, and for what.
 use crate::attempt::Who;
-use crate::entry::{Ordered, Reply};
 use cue_asker::AskerName;
+use cue_log_lines::{Asked, Ordered};
+use cue_operator::{CueVerb, DeviceVerb};
 use cue_show::limits::MAX_DEVICES;
 use cue_show::{CueNo, DeviceNo};
 use std::alloc::{AllocError, Global};
@@ -13,39 +14,6 @@ const MOST: usize = 256;
 /// For how many seconds a port has the name that was sent from it.
 const NAMED: u64 = 10;
 
-/// What is asked of a cue and may change an attempt.
-#[derive(Clone, Copy, PartialEq, Eq)]
-pub enum Verb {
-    Standby,
-    Go,
-    Cancel,
-}
-
-/// What a device says, or what is asked of it.
-#[derive(Clone, Copy)]
-pub enum Word {
-    StandingBy,
-    Complete,
-    Abort,
-    Release,
-}
-
-/// All of them.
-const WORDS: [Word; 4] = [Word::StandingBy, Word::Complete, Word::Abort, Word::Release];
-
-/// What an address asks.
-#[derive(Clone, Copy)]
-pub enum Asked {
-    /// This of one cue.
-    OfCue(Verb, CueNo),
-    /// This of more cues than one.
-    OfCues(Verb),
-    /// This of a device.
-    OfDevice(Word, DeviceNo),
-    /// Nothing that changes an attempt.
-    Other,
-}
-
 // The two parts after the front of an address.
 fn parts_after<'a>(address: &'a [u8], front: &[u8]) -> Option<(&'a [u8], &'a [u8])> {
     let named = address.strip_prefix(front)?;
@@ -54,27 +22,13 @@ fn parts_after<'a>(address: &'a [u8], front: &[u8]) -> Option<(&'a [u8], &'a [u8
     Some((name, verb.strip_prefix(b"/".as_slice())?))
 }
 
-fn verb_in(text: &[u8]) -> Option<Verb> {
-    match text {
-        b"standby" => Some(Verb::Standby),
-        b"go" => Some(Verb::Go),
-        b"cancel" => Some(Verb::Cancel),
-        _ => None,
+/// What an address asks of a cue; of no cue, if it speaks to more than one.
+pub fn verb_at(address: &[u8]) -> Option<(CueVerb, Option<CueNo>)> {
+    let (name, verb) = parts_after(address, b"/cue/")?;
+    match CueVerb::of(verb) {
+        Some(verb) => Some((verb, CueNo::read(name))),
+        None => None,
     }
-}
-
-// What an address has for it.
-fn text_of(word: Word) -> &'static [u8] {
-    match word {
-        Word::StandingBy => b"standing_by",
-        Word::Complete => b"complete",
-        Word::Abort => b"abort",
-        Word::Release => b"release",
-    }
-}
-
-fn word_in(text: &[u8]) -> Option<Word> {
-    WORDS.iter().copied().find(|word| text_of(*word) == text)
 }
 
 // The device with the number that a text is.
@@ -83,28 +37,12 @@ fn device_in(text: &[u8]) -> Option<DeviceNo> {
     DeviceNo::of(number)
 }
 
-// What is asked of a device.
-fn of_device(address: &[u8]) -> Option<Asked> {
+/// What a device says at an address, or what is asked of it.
+pub fn word_at(address: &[u8]) -> Option<(DeviceVerb, DeviceNo)> {
     let (name, word) = parts_after(address, b"/device/")?;
-    let word = word_in(word)?;
-    Some(Asked::OfDevice(word, device_in(name)?))
-}
-
-// What is asked of cues.
-fn of_cue(address: &[u8]) -> Option<Asked> {
-    let (name, verb) = parts_after(address, b"/cue/")?;
-    let verb = verb_in(verb)?;
-    match CueNo::read(name) {
-        Some(cue) => Some(Asked::OfCue(verb, cue)),
-        None => Some(Asked::OfCues(verb)),
-    }
-}
-
-/// What an address asks.
-pub fn asked_at(address: &[u8]) -> Asked {
-    match of_cue(address) {
-        Some(asked) => asked,
-        None => of_device(address).unwrap_or(Asked::Other),
+    match (DeviceVerb::of(word), device_in(name)) {
+        (Some(word), Some(device)) => Some((word, device)),
+        _ => None,
     }
 }
 
@@ -128,7 +66,7 @@ pub struct Asking {
     devices: HashMap<u16, DeviceNo>,
     ports: [u16; MAX_DEVICES],
     // The last ones of the newest second.
-    made: VecDeque<(Verb, Made)>,
+    made: VecDeque<(CueVerb, Made)>,
 }
 
 impl Asking {
@@ -171,11 +109,10 @@ impl Asking {
     }
 
     /// Who asked at a second.
-    pub fn who(&self, reply: &Reply<'_>, at: u64) -> Who {
-        if let Asked::OfDevice(_, device) = asked_at(reply.address) {
-            if self.has_port(device, reply.port) {
-                return Who::Device(device);
-            }
+    pub fn who(&self, reply: &Asked<'_>, at: u64) -> Who {
+        match word_at(reply.address.bytes()) {
+            Some((_, device)) if self.has_port(device, reply.port) => return Who::Device(device),
+            _ => {}
         }
         if let Some(name) = self.name_of(reply.port, at) {
             return Who::Named(name);
@@ -187,7 +124,7 @@ impl Asking {
     }
 
     // Keeps a command of this second.
-    fn keep(&mut self, verb: Verb, made: Made) -> Result<(), AllocError> {
+    fn keep(&mut self, verb: CueVerb, made: Made) -> Result<(), AllocError> {
         let is_old = match self.made.back() {
             Some((_, last)) => last.at != made.at,
             None => false,
@@ -205,7 +142,7 @@ impl Asking {
     /// A command of a cue, or of more cues, was made.
     pub fn made(
         &mut self,
-        verb: Verb,
+        verb: CueVerb,
         cue: Option<CueNo>,
         at: u64,
         by: &Who,
@@ -215,7 +152,7 @@ impl Asking {
     }
 
     /// Who asked for this of a cue at this second: the last one, in this very second, else nobody who is seen.
-    pub fn asker(&self, verb: Verb, cue: &Option<CueNo>, at: u64) -> Who {
+    pub fn asker(&self, verb: CueVerb, cue: &Option<CueNo>, at: u64) -> Who {
         let found = self.made.iter().rev().find(|(other, made)| {
             *other == verb && made.at == at && (made.cue.is_none() || made.cue == *cue)
         });

@@ -1,7 +1,9 @@
 //! How many attempts ended how.
-ghost use Rattle.std.specs.Prelude.{◌≡◌};
+ghost use Rattle.std.specs.Prelude.{◌≡◌, Some, None, count_by, length};
+ghost use Rattle.cue_exchange.specs.declared.attempt.Outcome.TheVariants.{Complete, Cancelled, Failed};
+ghost use Rattle.cue_report.specs.Telling as spec;
 
-use super::Evening;
+use crate::attempt::Attempt;
 use cue_exchange::Outcome;
 
 /// How many attempts there were, and how many of them ended how.
@@ -15,23 +17,37 @@ pub struct Totals {
     pub open: usize,
 }
 
-impl Evening {
-    // How many attempts ended so.
-    fn count_of(&self, outcome: Option<Outcome>) -> usize {
-        self.attempts
-            .iter()
-            .filter(|x| x.ended.map(|ended| ended.outcome) == outcome)
-            .count()
+// Whether an attempt ended so; of no outcome, whether the log does not have its end.
+fn ends_so(attempt: &Attempt, outcome: Option<Outcome>) -> bool
+    ensures { result ≡ spec.ends_so outcome attempt.now.ended }
+{
+    match (attempt.ended, outcome) {
+        (None, None) => true,
+        (Some(ended), Some(outcome)) => ended.outcome.number() == outcome.number(),
+        (None, Some(_)) | (Some(_), None) => false,
     }
 }
 
-/// How many attempts of an evening ended how.
-pub fn totals_of(evening: &Evening) -> Totals {
+// How many attempts ended so.
+fn count_of(attempts: &[Attempt], outcome: Option<Outcome>) -> usize
+    ensures { result ≡ count_by (λ a. spec.ends_so outcome a.ended) attempts.now }
+{
+    attempts.iter().filter(|x| ends_so(x, outcome)).count()
+}
+
+/// How many attempts ended how.
+pub fn totals_of(attempts: &[Attempt]) -> Totals
+    ensures all { result.all ≡ length attempts.now }
+    ensures complete { result.complete ≡ count_by (λ a. spec.ends_so (Some Complete) a.ended) attempts.now }
+    ensures cancelled { result.cancelled ≡ count_by (λ a. spec.ends_so (Some Cancelled) a.ended) attempts.now }
+    ensures failed { result.failed ≡ count_by (λ a. spec.ends_so (Some Failed) a.ended) attempts.now }
+    ensures unended { result.open ≡ count_by (λ a. spec.ends_so None a.ended) attempts.now }
+{
     Totals {
-        all: evening.attempts.len(),
-        complete: evening.count_of(Some(Outcome::Complete)),
-        cancelled: evening.count_of(Some(Outcome::Cancelled)),
-        failed: evening.count_of(Some(Outcome::Failed)),
-        open: evening.count_of(None),
+        all: attempts.len(),
+        complete: count_of(attempts, Some(Outcome::Complete)),
+        cancelled: count_of(attempts, Some(Outcome::Cancelled)),
+        failed: count_of(attempts, Some(Outcome::Failed)),
+        open: count_of(attempts, None),
     }
 }

@@ -1,42 +1,37 @@
 //! Follows how attempts are recovered, given up and ended.
-use super::asking::Verb;
+ghost use Rattle.std.specs.Prelude.{◌≡◌};
+ghost use Rattle.cue_report.specs.Following as spec;
+
 use super::{Deed, Done, Evening};
 use crate::attempt::{Attempt, Fate};
-use crate::entry::{Ending, Try};
-use crate::reading::live_in;
-use crate::sentences::shown_bytes;
-use cue_show::DeviceNo;
+use crate::sentences::{shown_bytes, why_words};
+use cue_exchange::Reason;
+use cue_log_lines::listed::{Cause, Found, first_failure, found_in};
+use cue_log_lines::{Ended, Try, Why};
+use cue_operator::CueVerb;
+use cue_show::limits::MAX_PARTS;
 use std::alloc::AllocError;
-use std::str::from_utf8;
 
-/// What the log says of an attempt that was preparing when `serve` ended.
-const LOST: &[u8] = b" was preparing, given up";
-
-// The device that failed, by a piece of the line of an end, and what became of it.
-fn failure_in(piece: &str) -> Option<(DeviceNo, Fate)> {
-    let (number, words) = piece.strip_prefix("device ")?.split_once(' ')?;
-    let number = number.parse::<i32>().ok()?;
-    let fate = match words {
-        "aborted" => Fate::Aborted,
-        "was released" => Fate::Released,
-        "failed" => Fate::Failed,
-        _ => return None,
-    };
-    match DeviceNo::of(number) {
-        Some(device) => Some((device, fate)),
-        None => None,
+// What became of a device that failed so.
+fn fate_of(cause: Cause) -> Fate
+    ensures { result ≡ spec.fate_of cause }
+{
+    match cause {
+        Cause::Aborted => Fate::Aborted,
+        Cause::Released => Fate::Released,
+        Cause::Unseen => Fate::Failed,
     }
 }
 
-// Takes what the line of an end says beside the outcome.
-fn take_more(attempt: &mut Attempt, more: &str) -> Result<(), AllocError> {
-    for piece in more.split(", ") {
-        if let Some((device, fate)) = failure_in(piece) {
-            attempt.meet(device, fate)?;
-        } else if let Some(after) = piece.strip_suffix(" after standby") {
-            attempt.after.clear();
-            attempt.after.push_str(after)?;
-        }
+// Takes the devices that failed.
+fn take_failures(attempt: &mut Attempt, failures: &[u8]) -> Result<(), AllocError> {
+    let mut left = failures;
+    for _ in 0..MAX_PARTS {
+        let Some((failure, others)) = first_failure(left) else {
+            break;
+        };
+        attempt.meet(failure.device, fate_of(failure.cause))?;
+        left = others;
     }
     Ok(())
 }
@@ -54,21 +49,21 @@ impl Evening {
 
     // One attempt that was live when `serve` began. What was preparing is given up.
     fn recover_one(&mut self, at: u64, said: &[u8]) -> Result<(), AllocError> {
-        let Some((attempt, words)) = live_in(said) else {
-            return Ok(());
-        };
-        if words == LOST {
-            return self.give_up(at, &attempt, b"the controller was started again");
+        match found_in(said) {
+            Some((attempt, Found::Lost)) => { self.give_up(at, &attempt, Why::Said(Reason::Power)) }
+            Some((attempt, Found::Preparing | Found::Given | Found::GivenUp)) => {
+                let _ = self.place_of(&attempt, at)?;
+                Ok(())
+            }
+            None => Ok(()),
         }
-        let _ = self.place_of(&attempt, at)?;
-        Ok(())
     }
 
     // An attempt was given up.
-    pub(super) fn give_up(&mut self, at: u64, attempt: &Try, why: &[u8]) -> Result<(), AllocError> {
+    pub(super) fn give_up(&mut self, at: u64, attempt: &Try, why: Why) -> Result<(), AllocError> {
         let place = self.place_of(attempt, at)?;
-        let by = self.asking.asker(Verb::Cancel, &attempt.cue, at);
-        let why = shown_bytes(self.alloc, why)?;
+        let by = self.asking.asker(CueVerb::Cancel, &attempt.cue, at);
+        let why = why_words(self.alloc, why)?;
         if let Some(attempt) = self.attempts.get_mut(place) {
             attempt.give_up(at, &by, why);
         }
@@ -76,16 +71,12 @@ impl Evening {
     }
 
     // An attempt has ended.
-    pub(super) fn end(
-        &mut self,
-        at: u64,
-        attempt: &Try,
-        ending: &Ending<'_>,
-    ) -> Result<(), AllocError> {
-        let place = self.place_of(attempt, at)?;
+    pub(super) fn end(&mut self, at: u64, end: &Ended<'_>) -> Result<(), AllocError> {
+        let place = self.place_of(&end.attempt, at)?;
         if let Some(attempt) = self.attempts.get_mut(place) {
-            attempt.end(at, ending.outcome);
-            take_more(attempt, from_utf8(ending.more).unwrap_or(""))?;
+            attempt.end(at, end.outcome);
+            attempt.after = Some(end.span);
+            take_failures(attempt, end.failures.bytes())?;
         }
         Ok(())
     }

@@ -1,21 +1,19 @@
 //! Follows what the lines say.
-use super::asking::Verb;
 use super::{Deed, Done, Evening};
 use crate::attempt::{Attempt, Who};
-use crate::entry::{Entry, OrderKind, Ordered, Try};
+use crate::reading::Said;
 use crate::sentences::shown_bytes;
+use cue_log_lines::{Line, OrderKind, Ordered, Try, write};
+use cue_operator::CueVerb;
 use std::alloc::AllocError;
 
 // Whether `serve` runs when it says this; what it says of itself may also be said beside it.
-fn is_of_run(entry: &Entry<'_>) -> bool {
-    match entry {
-        Entry::Ready { .. } | Entry::Recovered(_) | Entry::Replied(_) | Entry::Ordered(_) => true,
-        Entry::Counted(_, _)
-        | Entry::HeldUp(_)
-        | Entry::Alone(_)
-        | Entry::GivenUp(_, _)
-        | Entry::End(_, _) => true,
-        Entry::Stopped | Entry::Ended(_) | Entry::Said(_) => false,
+fn is_of_run(said: &Said<'_>) -> bool {
+    match said {
+        Said::Line(Line::Stopped | Line::Own(_)) | Said::Ended(_) => false,
+        Said::Line(Line::Ready { .. } | Line::Recovered(_) | Line::HeldUp(_)) => true,
+        Said::Line(Line::Replied(_, _) | Line::Kinds(_) | Line::Ordered(_)) => true,
+        Said::Line(Line::Alone(_, _) | Line::GivenUp(_, _) | Line::Ended(_)) => true,
     }
 }
 
@@ -25,31 +23,43 @@ impl Evening {
         &mut self,
         at: u64,
         before: Option<u64>,
-        entry: &Entry<'_>,
+        said: &Said<'_>,
     ) -> Result<(), AllocError> {
         let was_running = self.is_running;
-        self.is_running = was_running || is_of_run(entry);
-        match entry {
-            Entry::Ready { dir, port } => {
+        self.is_running = was_running || is_of_run(said);
+        match said {
+            Said::Line(Line::Ready { dir, port }) => {
                 let silent = if was_running { before } else { None };
-                self.begin(at, silent, dir, *port)
+                self.begin(at, silent, dir.bytes(), *port)
             }
-            Entry::Stopped => self.stop(at, Deed::Stopped),
-            Entry::Ended(said) => {
+            Said::Line(line) => self.take_line(at, line),
+            Said::Ended(said) => {
                 let said = shown_bytes(self.alloc, said)?;
                 self.stop(at, Deed::Ended(said))
             }
-            Entry::Said(said) | Entry::HeldUp(said) => self.tell(at, said),
-            Entry::Recovered(list) => self.recover(at, list),
-            Entry::Replied(reply) => self.reply(at, reply),
-            Entry::Counted(times, said) => self.count(at, *times, said),
-            Entry::Ordered(ordered) => self.order(at, ordered),
-            Entry::Alone(attempt) => {
+        }
+    }
+
+    // Takes what a line of the log says that is no start.
+    fn take_line(&mut self, at: u64, line: &Line<'_>) -> Result<(), AllocError> {
+        match line {
+            Line::Ready { .. } => Ok(()),
+            Line::Stopped => self.stop(at, Deed::Stopped),
+            Line::Own(said) => self.tell(at, said.bytes()),
+            Line::Recovered(list) => self.recover(at, list.bytes()),
+            Line::HeldUp(_) => {
+                let said = write(self.alloc, line)?;
+                self.tell(at, &said)
+            }
+            Line::Replied(reply, count) => self.reply(at, reply, *count),
+            Line::Kinds(count) => self.count(at, *count),
+            Line::Ordered(ordered) => self.order(at, ordered),
+            Line::Alone(attempt, _) => {
                 let _ = self.place_of(attempt, at)?;
                 Ok(())
             }
-            Entry::GivenUp(attempt, why) => self.give_up(at, attempt, why),
-            Entry::End(attempt, ending) => self.end(at, attempt, ending),
+            Line::GivenUp(attempt, why) => self.give_up(at, attempt, *why),
+            Line::Ended(end) => self.end(at, end),
         }
     }
 
@@ -120,8 +130,10 @@ impl Evening {
     // Who asked for an order.
     fn asker_of(&self, at: u64, ordered: &Ordered) -> Who {
         match ordered.kind {
-            OrderKind::Standby => self.asking.asker(Verb::Standby, &ordered.attempt.cue, at),
-            OrderKind::Go => self.asking.asker(Verb::Go, &ordered.attempt.cue, at),
+            OrderKind::Standby => self
+                .asking
+                .asker(CueVerb::Standby, &ordered.attempt.cue, at),
+            OrderKind::Go => self.asking.asker(CueVerb::Go, &ordered.attempt.cue, at),
             OrderKind::Cancel => Who::Unseen,
         }
     }

@@ -1,6 +1,6 @@
 //! Hears the bytes of a log, line by line.
 use super::Evening;
-use crate::reading::{Line, read, start_within};
+use crate::reading::{Dated, read, start_within};
 use std::alloc::AllocError;
 
 // A line without the sign that some programs put before its end.
@@ -65,7 +65,7 @@ impl Evening {
 
     // Hears a line. If a start begins within it, the line before that was cut off, as on a full disk.
     fn hear_line(&mut self, line: &[u8]) -> Result<(), AllocError> {
-        match start_within(line) {
+        match start_within(self.alloc, line)? {
             Some(start) => {
                 self.pass_over()?;
                 self.hear_whole(start)
@@ -75,14 +75,21 @@ impl Evening {
     }
 
     fn hear_whole(&mut self, line: &[u8]) -> Result<(), AllocError> {
-        match read(line) {
+        match read(self.alloc, line)? {
             Some(said) => self.hear_said(line, &said),
             None => self.pass_over(),
         }
     }
 
-    fn hear_said(&mut self, line: &[u8], said: &Line<'_>) -> Result<(), AllocError> {
+    // Counts a line of another time of the day.
+    fn leave_out(&mut self) -> Result<(), AllocError> {
+        self.counts.outside = self.counts.outside.saturating_add(1);
+        Ok(())
+    }
+
+    fn hear_said(&mut self, line: &[u8], said: &Dated<'_>) -> Result<(), AllocError> {
         let at = match said.at {
+            Some(at) if !self.is_told(at) => return self.leave_out(),
             Some(at) if self.is_repeated(line, at) => {
                 self.is_repeating = true;
                 self.counts.repeated = self.counts.repeated.saturating_add(1);
@@ -97,7 +104,7 @@ impl Evening {
         };
         self.counts.told = self.counts.told.saturating_add(1);
         let before = self.last;
-        self.take(at, before, &said.entry)?;
+        self.take(at, before, &said.said)?;
         if said.at.is_some() {
             self.first = Some(self.first.unwrap_or(at));
             self.last = Some(at);

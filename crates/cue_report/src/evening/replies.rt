@@ -1,68 +1,98 @@
 //! Follows the replies: what was asked of cues and devices, by whom, and what was refused.
-use super::asking::{Asked, Word, asked_at, name_at};
+ghost use Rattle.std.specs.Prelude.{◌≡◌};
+ghost use Rattle.cue_report.specs.Following as spec;
+
+use super::asking::{name_at, verb_at, word_at};
 use super::{Evening, Refusal};
 use crate::attempt::{Fate, Who};
-use crate::entry::Reply;
-use crate::sentences::shown_bytes;
+use crate::sentences::{counted_words, refused_words, shown_bytes};
+use cue_log_lines::{Asked, Count, Refused};
+use cue_operator::DeviceVerb;
 use cue_show::DeviceNo;
 use std::alloc::AllocError;
 
 // What becomes of a device that aborts or is released.
-fn fate_of(word: Word, is_preparing: bool) -> Option<Fate> {
+fn fate_by(word: DeviceVerb, is_preparing: bool) -> Option<Fate>
+    ensures { result ≡ spec.fate_by word is_preparing }
+{
     match (word, is_preparing) {
-        (Word::Abort, true) => Some(Fate::AbortedEarly),
-        (Word::Abort, false) => Some(Fate::Aborted),
-        (Word::Release, true) => Some(Fate::ReleasedEarly),
-        (Word::Release, false) => Some(Fate::Released),
-        (Word::StandingBy | Word::Complete, _) => None,
+        (DeviceVerb::Abort, true) => Some(Fate::AbortedEarly),
+        (DeviceVerb::Abort, false) => Some(Fate::Aborted),
+        (DeviceVerb::Release, true) => Some(Fate::ReleasedEarly),
+        (DeviceVerb::Release, false) => Some(Fate::Released),
+        (DeviceVerb::StandingBy | DeviceVerb::Complete, _) => None,
+        (DeviceVerb::Cancelled | DeviceVerb::Remove, _) => None,
+    }
+}
+
+// For how many replies a line stands.
+fn times_of(count: Option<Count>) -> u64
+    ensures { result ≡ spec.times_of count }
+{
+    match count {
+        Some(count) => count.times,
+        None => 1,
     }
 }
 
 impl Evening {
     // A reply that made or refused something.
-    pub(super) fn reply(&mut self, at: u64, reply: &Reply<'_>) -> Result<(), AllocError> {
-        if let Some(name) = name_at(reply.address) {
+    pub(super) fn reply(
+        &mut self,
+        at: u64,
+        reply: &Asked<'_>,
+        count: Option<Count>,
+    ) -> Result<(), AllocError> {
+        if let Some(name) = name_at(reply.address.bytes()) {
             return self.asking.name(reply.port, at, name);
         }
         let by = self.asking.who(reply, at);
-        if reply.refused > 0 {
-            self.refuse_reply(at, &by, reply)?;
+        if let Refused::Some { code, .. } = reply.refused {
+            self.refuse_reply(at, &by, reply, code, count)?;
         }
         if reply.made == 0 {
             return Ok(());
         }
-        match asked_at(reply.address) {
-            Asked::OfCue(verb, cue) => self.asking.made(verb, Some(cue), at, &by),
-            Asked::OfCues(verb) => self.asking.made(verb, None, at, &by),
-            Asked::OfDevice(word, device) => self.hear_device(at, word, device),
-            Asked::Other => Ok(()),
+        if let Some((verb, cue)) = verb_at(reply.address.bytes()) {
+            return self.asking.made(verb, cue, at, &by);
+        }
+        match word_at(reply.address.bytes()) {
+            Some((word, device)) => self.hear_device(at, word, device),
+            None => Ok(()),
         }
     }
 
     // Counts a refusal that stands for so many; answers whether there is room to keep it.
-    fn refuse(&mut self, times: u32) -> bool {
-        self.refused = self.refused.saturating_add(u64::from(times));
+    fn refuse(&mut self, times: u64) -> bool {
+        self.refused = self.refused.saturating_add(times);
         self.refusals.has_room()
     }
 
     // A command was refused.
-    fn refuse_reply(&mut self, at: u64, by: &Who, reply: &Reply<'_>) -> Result<(), AllocError> {
-        if !self.refuse(reply.times) {
+    fn refuse_reply(
+        &mut self,
+        at: u64,
+        by: &Who,
+        reply: &Asked<'_>,
+        code: u16,
+        count: Option<Count>,
+    ) -> Result<(), AllocError> {
+        if !self.refuse(times_of(count)) {
             return Ok(());
         }
         let refusal = Refusal {
             at,
             by: *by,
-            address: shown_bytes(self.alloc, reply.address)?,
-            code: reply.code,
-            why: shown_bytes(self.alloc, reply.why)?,
+            address: shown_bytes(self.alloc, reply.address.bytes())?,
+            code,
+            why: refused_words(self.alloc, reply, code, count)?,
         };
         self.refusals.push(refusal)
     }
 
     // Refusals of several kinds were counted.
-    pub(super) fn count(&mut self, at: u64, times: u32, said: &[u8]) -> Result<(), AllocError> {
-        if !self.refuse(times) {
+    pub(super) fn count(&mut self, at: u64, count: Count) -> Result<(), AllocError> {
+        if !self.refuse(count.times) {
             return Ok(());
         }
         let refusal = Refusal {
@@ -70,13 +100,18 @@ impl Evening {
             by: Who::Unseen,
             address: String::new(self.alloc),
             code: 0,
-            why: shown_bytes(self.alloc, said)?,
+            why: counted_words(self.alloc, count)?,
         };
         self.refusals.push(refusal)
     }
 
     // A device has answered, or was released. What it says counts for the attempt that it is in.
-    fn hear_device(&mut self, at: u64, word: Word, device: DeviceNo) -> Result<(), AllocError> {
+    fn hear_device(
+        &mut self,
+        at: u64,
+        word: DeviceVerb,
+        device: DeviceNo,
+    ) -> Result<(), AllocError> {
         let Some(place) = self.holders.holder(device) else {
             return Ok(());
         };
@@ -87,13 +122,14 @@ impl Evening {
             return Ok(());
         }
         match word {
-            Word::StandingBy => attempt.ready(device, at),
-            Word::Complete => attempt.done(device, at),
-            Word::Abort | Word::Release => {
+            DeviceVerb::StandingBy => attempt.ready(device, at),
+            DeviceVerb::Complete => attempt.done(device, at),
+            DeviceVerb::Cancelled | DeviceVerb::Remove => Ok(()),
+            DeviceVerb::Abort | DeviceVerb::Release => {
                 if attempt.given_up.is_some() {
                     return Ok(());
                 }
-                match fate_of(word, attempt.is_preparing()) {
+                match fate_by(word, attempt.is_preparing()) {
                     Some(fate) => attempt.meet(device, fate),
                     None => Ok(()),
                 }

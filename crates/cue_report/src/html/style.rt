@@ -8,6 +8,9 @@ h2 { font-size: 13pt; margin: 1.2em 0 0.3em; border-bottom: 1px solid #000; brea
 h3 { font-size: 11pt; margin: 0; }
 p { margin: 0.1em 0; }
 .span { font-size: 13pt; }
+.signed { width: 100%; margin-top: 0.6em; }
+.signed td { border-bottom: 1px solid #000; height: 2.2em; }
+.room { border: 1px solid #000; height: 8em; }
 .note { font-style: italic; }
 .attempt { border: 1px solid #000; border-left-width: 4px; padding: 0.3em 0.6em; margin: 0.5em 0; break-inside: avoid; }
 .cancelled, .open { border-left-style: dashed; }

@@ -172,6 +172,15 @@ fn write_of_companions<W: fmt::Write>(f: &mut fmt::Formatter<W>, mistake: &Mista
     }
 }
 
+// Writes of how many other cues the same is to be said.
+fn write_others<W: fmt::Write>(f: &mut fmt::Formatter<W>, others: usize) -> fmt::Result {
+    match others {
+        0 => Ok(()),
+        1 => f.write_str(", and so is one of another cue"),
+        _ => write!(f, ", and so are parts of {others} other cues"),
+    }
+}
+
 // Writes that parts are for a device that the file does not have.
 fn write_unknown_device<W: fmt::Write>(
     f: &mut fmt::Formatter<W>,
@@ -183,12 +192,23 @@ fn write_unknown_device<W: fmt::Write>(
         f,
         "a part is for device {device}, which the file does not have"
     )?;
-    match others {
-        0 => {}
-        1 => f.write_str(", and so is one of another cue")?,
-        _ => write!(f, ", and so are parts of {others} other cues")?,
-    }
+    write_others(f, others)?;
     f.write_str(": add a [[device]] with that number")
+}
+
+// Writes the same where that may be a device whose number cannot be read.
+fn write_unknown_yet<W: fmt::Write>(
+    f: &mut fmt::Formatter<W>,
+    device: DeviceNo,
+    others: usize,
+) -> fmt::Result {
+    let device = device.number();
+    write!(
+        f,
+        "a part is for device {device}, which the file does not have so far"
+    )?;
+    write_others(f, others)?;
+    f.write_str(": mend the number of a device, or add a [[device]] with that number")
 }
 
 // Writes a mistake by which a number is none, or something is missing.
@@ -234,6 +254,7 @@ impl fmt::Display for Mistake {
             }
             Mistake::UnknownDevice(device) => write_unknown_device(f, *device, 0),
             Mistake::UnknownInCues(device, others) => write_unknown_device(f, *device, *others),
+            Mistake::UnknownYet(device, others) => write_unknown_yet(f, *device, *others),
             Mistake::Empty
             | Mistake::OwnPort
             | Mistake::UsualPort

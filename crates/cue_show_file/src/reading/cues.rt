@@ -6,13 +6,14 @@ ghost use Rattle.cue_show_file.specs.Reading.{cues_of, if_clean, is_clean, then_
 ghost use Rattle.cue_show_file.specs.Said.{cue_at, cue_said, each_said, is_of_cue, list_or_none, list_said, only_if};
 ghost use Rattle.cue_show_file.specs.Said.{part_said, table_said};
 
+use super::forms::read_forms;
 use super::keys::{cue_in, note_unknown, text_in, value_at};
 use super::marks::{read_color, read_flag};
 use super::parts::read_parts;
 use super::tables::{Place, place_of, tables_in};
 use super::together::read_companions;
 use crate::checking::note_torn;
-use crate::file::{Companions, CueEntry, DeviceEntry};
+use crate::file::{Companions, CueEntry, DeviceEntry, Forms};
 use crate::headers::{Headers, lines_for};
 use crate::marks::{Color, Flag};
 use crate::mistake::{Findings, Key, Mistake, Section, Subject};
@@ -29,6 +30,7 @@ struct Rest {
     flag: Option<Flag>,
     companions: Companions,
     parts: Parts,
+    forms: Forms,
 }
 
 // The number of a cue; none if it is wrong, which is noted. From then on this cue is looked at.
@@ -74,6 +76,7 @@ fn read_rest(alloc: Global, findings: &mut Findings, table: &Table) -> Result<Re
     let flag = read_flag(findings, table)?;
     let companions = read_companions(alloc, findings, table)?;
     let parts = read_parts(alloc, findings, table)?;
+    let forms = read_forms(alloc, table)?;
     Ok(Rest {
         name,
         note,
@@ -81,6 +84,7 @@ fn read_rest(alloc: Global, findings: &mut Findings, table: &Table) -> Result<Re
         flag,
         companions,
         parts,
+        forms,
     })
 }
 
@@ -90,6 +94,29 @@ fn has_all(table: &Table, parts: &Parts) -> bool {
         Some(Value::Array(values)) => values.len() == parts.as_slice().len(),
         _ => false,
     }
+}
+
+// Notes that the file had the cue before, where no check sees both: one of the two could not be read whole.
+fn note_again(
+    findings: &mut Findings,
+    cues: &[CueEntry],
+    number: CueNo,
+    is_torn: bool,
+) -> Result<(), AllocError>
+    ensures { IfOk result (λ _. is_clean findings.new ≡ is_clean findings.old) }
+{
+    if findings.len() == 0 {
+        return Ok(());
+    }
+    let was_read = cues.iter().any(|entry| entry.number == number);
+    let was_torn = findings.has_refused(number);
+    if was_read != was_torn && (is_torn || was_torn) {
+        findings.note(Mistake::CueTwice)?;
+    }
+    if is_torn {
+        findings.refuse(number)?;
+    }
+    Ok(())
 }
 
 // Reads a cue, and puts it after the others. Of one without a number, and of one whose parts could not all be read,
@@ -114,8 +141,12 @@ fn read_cue(
         flag,
         companions,
         parts,
+        forms,
     } = read_rest(alloc, findings, table)?;
     let is_torn = findings.len() > before && !has_all(table, &parts);
+    if let Some(number) = number {
+        note_again(findings, cues, number, is_torn)?;
+    }
     match number {
         Some(number) if !is_torn => {
             cues.push(CueEntry {
@@ -127,6 +158,7 @@ fn read_cue(
                 flag,
                 companions,
                 parts,
+                forms,
             })?;
             Ok(())
         }

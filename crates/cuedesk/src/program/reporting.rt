@@ -1,8 +1,8 @@
 //! The command `report`: an evening, by the log of `serve`.
 use cue_desk::ending::Ending;
-use cue_desk_line::Report;
+use cue_desk_line::{Form, Report};
 use cue_files_run::read_file;
-use cue_report::{Evening, Names, html, text};
+use cue_report::{Evening, Names, Range, csv, html, text};
 use cue_saying::say;
 use cue_show_file::ShowFile;
 use std::alloc::AllocError;
@@ -108,23 +108,54 @@ fn put_page<R: AllocGlobal, W: Write>(
     flush(writer)
 }
 
+// The report as a table, attempt by attempt.
+fn put_table<R: AllocGlobal, W: Write>(
+    rt: &R,
+    evening: &Evening,
+    names: &Names<'_>,
+    writer: &mut W,
+) -> Result<(), Ending> {
+    put(writer, String::from_str(rt.alloc(), csv::HEAD)?)?;
+    for attempt in evening.attempts.iter() {
+        put(
+            writer,
+            csv::attempt_row(rt.alloc(), evening, names, attempt)?,
+        )?;
+    }
+    flush(writer)
+}
+
 // The report of an evening that was heard, with the names of a show file.
 fn put_report<R: AllocGlobal, W: Write>(
     rt: &R,
-    html: bool,
+    report: &Report,
     evening: &Evening,
     file: &ShowFile,
     writer: &mut W,
 ) -> Result<(), Ending> {
     let mut names = Names::new(rt.alloc());
+    names.title = report.title.as_str();
     add_names(&mut names, file)?;
-    let put = if html {
-        put_page(rt, evening, &names, writer)
-    } else {
-        put_text(rt, evening, &names, writer)
+    let put = match report.form {
+        Form::Text => put_text(rt, evening, &names, writer),
+        Form::Page => put_page(rt, evening, &names, writer),
+        Form::Table => put_table(rt, evening, &names, writer),
     };
     drop(names);
     put
+}
+
+// The part of a day between these minutes, with both.
+fn range_of(from: Option<u16>, to: Option<u16>) -> Range {
+    let from = match from {
+        Some(minute) => u64::from(minute).saturating_mul(60),
+        None => Range::DAY.from,
+    };
+    let to = match to {
+        Some(minute) => u64::from(minute).saturating_mul(60).saturating_add(59),
+        None => Range::DAY.to,
+    };
+    Range { from, to }
 }
 
 /// The command `report`. A line that is none of the log is counted, and no mistake; a log that cannot be read ends it
@@ -137,8 +168,10 @@ pub fn report_evening<R: Files<File = File> + Eprint + AllocGlobal, W: Write>(
     let file = read_file(rt, report.file.as_str())?;
     let log = report.log.as_str();
     let mut evening = Evening::new(rt.alloc());
+    evening.ahead = i64::from(report.ahead) * 60;
+    evening.range = range_of(report.from, report.to);
     let reported = match hear(rt, log, &mut evening) {
-        Ok(()) => put_report(rt, report.html, &evening, &file, writer),
+        Ok(()) => put_report(rt, report, &evening, &file, writer),
         Err(why) => Err(unread(rt, log, &why)),
     };
     drop(evening);

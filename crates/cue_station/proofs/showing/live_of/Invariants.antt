@@ -6,4 +6,5 @@ use Rattle.cue_station.proofs.showing.live_of.Given as goal
 abbrev pub invariant-loop-attempt : goal.invariant-loop-attempt
 invariant-loop-attempt l =
     l.live.items
-    ≡ map (shown_attempt l.stands (since_in l.seen) (given_in l.seen) l.at l.wall) (take l.attempt-index l.attempts)
+    ≡ map (shown_attempt l.stands (since_in l.seen) (given_in l.seen) l.copy.events.items l.at l.wall)
+    (take l.attempt-index l.attempts)

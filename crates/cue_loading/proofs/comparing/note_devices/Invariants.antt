@@ -1,0 +1,7 @@
+use Rattle.std.proofs.Common.{◌≡◌}
+use Rattle.cue_loading.specs.Differences.{are_so}
+use Rattle.cue_loading.proofs.comparing.note_devices.Given as goal
+
+-- what was put there is so
+abbrev pub invariant-loop-device : goal.invariant-loop-device
+invariant-loop-device l = are_so l.file l.stored l.found.items ≡ are_so l.file l.stored l.fn.found.items

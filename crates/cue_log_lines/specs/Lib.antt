@@ -1,0 +1,6 @@
+pub mod Fitting
+pub mod Laws
+pub mod Lines
+pub mod Listed
+pub mod Pieces
+pub mod Reading

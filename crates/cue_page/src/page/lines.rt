@@ -1,0 +1,62 @@
+//! The line above the buttons. It tells of now: it goes as soon as its reason does, and whenever something new became
+//! of the last press.
+
+/// The text of a `script`.
+pub(super) const LINES: &str = r#"
+"use strict";
+const NOTED = 6000, TAP = 1000, NO_GO = { press: "", at: -Infinity };
+let note = { draw: () => ["", ""], until: 0, said: "", holds: () => true }, lastGo = NO_GO;
+
+// The last press that was sent, and what became of it, as far as the line goes.
+const saidNow = () => view && view.said ? view.said.ask + " " + view.said.kind : "";
+
+// Says it for so long, as long as its reason holds and nothing new became of the last press.
+function say(words, kind, millis, holds) {
+  note = { draw: () => [words, kind], until: now() + millis, said: saidNow(), holds: holds || (() => true) };
+  showWords();
+}
+
+// What became of the GO that was sent from here, if it was not refused.
+function goKind() {
+  const kind = view && view.said && view.said.press === lastGo.press ? view.said.kind : "open";
+  return ["open", "said", "made"].includes(kind) ? kind : null;
+}
+
+// A second tap within a second of a GO is the same press: a foot switch bounces. It gives no cue, and refuses none.
+const isTap = () => now() - lastGo.at < TAP && goKind() !== null;
+
+function tapWords() {
+  const isMade = goKind() === "made";
+  const cue = "cue " + called(lastGo.press.split(" ")[1], cueName(lastGo.press.split(" ")[1]));
+  return [(isMade ? "GO was given for " : "GO is pressed for ") + cue + "; the second tap did nothing",
+    isMade ? "made" : "open"];
+}
+
+function sayTap() {
+  note = { draw: tapWords, until: now() + NOTED, said: null, holds: () => goKind() !== null };
+  showWords();
+}
+
+// A press that was not sent.
+function notGiven(press, why) {
+  if (press === lastGo.press) lastGo = NO_GO;
+  say(press + ": " + why, "refused", NOTED);
+}
+
+// A press in words: STANDBY of the next cue names those that stand by together with it.
+function pressWords(press) {
+  const isNext = view.next.cue !== null && press === "standby " + view.next.cue;
+  return press + (isNext ? withWords(view.next.with) : "");
+}
+
+function noteNow() {
+  const isNew = note.said !== null && note.said !== saidNow();
+  return now() < note.until && !isNew && note.holds() ? note.draw() : null;
+}
+
+function showWords() {
+  const said = view && view.said, noted = noteNow();
+  at("words").className = noted ? noted[1] : said ? said.kind : "";
+  write("words", noted ? noted[0] : said ? pressWords(said.press) + ": " + said.words : KEYS);
+}
+"#;

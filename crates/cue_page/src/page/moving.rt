@@ -1,0 +1,43 @@
+//! Which devices may still move although no cue waits for them. The store says only that a device failed. The relay
+//! says whether it has answered its GO: one that has not was released, and nobody knows whether it stands still.
+
+/// The text of a `script`.
+pub(super) const MOVING: &str = r#"
+"use strict";
+// A relay writes once a second: what it says of a device may be older than what the store says of it.
+const SETTLED = 1500;
+const since = new Map();
+
+const hasFailed = (device) =>
+  view.live.some((one) => one.devices.some((answer) => answer.device === device && answer.answer === "failed"))
+  || [view.last, ...view.past].some((told) => told && told.failed.includes(device));
+
+// GO was sent to the device, it has not answered, and no cue waits for it.
+const isLeft = (contact) => contact.heard.startsWith("moving") && hasFailed(contact.device)
+  && !view.live.some((one) => waitedFor(one).includes(contact.device));
+
+function followMoving() {
+  const left = view.network.filter(isLeft).map((contact) => contact.device);
+  for (const device of [...since.keys()]) if (!left.includes(device)) since.delete(device);
+  for (const device of left) if (!since.has(device)) since.set(device, now());
+}
+
+const mayMove = (device) => since.has(device) && now() - since.get(device) > SETTLED;
+
+// What the devices did that failed.
+function failedWords(devices) {
+  const known = view.network.length ? devices.filter((one) => !since.has(one)) : [];
+  const moving = devices.filter(mayMove);
+  const open = devices.filter((one) => !known.includes(one) && !moving.includes(one));
+  const words = (some, did) => some.length ? ": device " + devicesWords(some) + did : "";
+  return words(known, " aborted") + words(open, " aborted, or was released")
+    + words(moving, " was released: it may still move");
+}
+
+function movingAlarm(device) {
+  const words = " was released, and may still move: no cue waits for it";
+  return { kind: "moving", of: device, words: "device " + called(device, deviceName(device)) + words };
+}
+
+const movingAlarms = () => [...since.keys()].filter(mayMove).map(movingAlarm);
+"#;

@@ -126,11 +126,11 @@ fn put_table<R: AllocGlobal, W: Write>(
 }
 
 // The report of an evening that was heard, with the names of a show file.
-fn put_report<R: AllocGlobal, W: Write>(
+fn put_report<'a, R: AllocGlobal, W: Write>(
     rt: &R,
-    report: &Report,
+    report: &'a Report,
     evening: &Evening,
-    file: &ShowFile,
+    file: &'a ShowFile,
     writer: &mut W,
 ) -> Result<(), Ending> {
     let mut names = Names::new(rt.alloc());

@@ -153,7 +153,9 @@ def open_go(page, evening):
     page.key(ESCAPE)
     check("and is sent", page.shows("words", "cancel 1", 1))
     evening.serve.go_on()
-    check("the GO came first", page.shows("words", "refused: ") and ends(page, "1", "complete"))
+    check("what became of the GO is told beside it", page.shows("words", "; before it, go 1 ", 3)
+          and page.waits_for(lambda: page.text("words").endswith(": made"), 3))
+    check("the GO came first", "refused: " in page.text("words") and ends(page, "1", "complete"))
 
 
 def end_of_stack(page, evening):

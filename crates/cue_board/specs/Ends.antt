@@ -2,6 +2,8 @@
 use Rattle.std.specs.Prelude.{ℕ, ◌==◌, length, List, [], ◌∷◌, ◌++◌, codes, Option, None, Some, if◌then◌else◌}
 use Rattle.std.specs.Fmt.{decimal}
 use Rattle.std.specs.List.{flat_map}
+use Rattle.cue_exchange.specs.declared.attempt.Outcome.{Outcome}
+use Rattle.cue_exchange.specs.declared.attempt.Outcome.TheVariants as outcome
 use Rattle.cue_exchange.specs.declared.attempt.Reason.{Reason}
 use Rattle.cue_words.specs.Answered.{outcome_words, reason_words}
 use Rattle.cue_view.specs.declared.view.Told.{Told}
@@ -32,14 +34,20 @@ abbrev pub devices_words : Names → List ℕ → List ℕ → List ℕ
 devices_words names words [] = []
 devices_words names words (d ∷ ds) = device_words names words d ++ flat_map (device_words names (codes ",")) ds
 
+-- what devices did that failed: after a GO one that was released failed, too, and the store does not say which it was
+abbrev pub did_words : Outcome → List ℕ
+did_words outcome.Failed = codes " aborted or released"
+did_words outcome.Cancelled = codes " aborted"
+did_words outcome.Complete = codes " aborted"
+
 -- which devices failed
-abbrev pub failed_words : Names → List ℕ → List ℕ
-failed_words names [] = []
-failed_words names (d ∷ ds) = devices_words names (codes ": device") (d ∷ ds) ++ codes " aborted"
+abbrev pub failed_words : Names → Outcome → List ℕ → List ℕ
+failed_words names o [] = []
+failed_words names o (d ∷ ds) = devices_words names (codes ": device") (d ∷ ds) ++ did_words o
 
 -- which devices failed, and which it went without
 abbrev pub end_rest : Names → Told → List ℕ
-end_rest names t = failed_words names t.failed ++ devices_words names (codes " without device") t.excused
+end_rest names t = failed_words names t.outcome t.failed ++ devices_words names (codes " without device") t.excused
 
 -- how it ended
 unfoldable pub end_words : Names → Told → List ℕ

@@ -7,7 +7,7 @@ ghost use Rattle.cue_board.specs.Board.{said_of};
 use crate::columns::fitted;
 use crate::line::BoardLine;
 use crate::names::Names;
-use cue_exchange::Reason;
+use cue_exchange::{Outcome, Reason};
 use cue_show::DeviceNo;
 use cue_show_file::cue_text;
 use cue_view::view::Told;
@@ -79,19 +79,30 @@ fn devices_words(
     }
 }
 
+// What devices did that failed. After a GO one that was released failed, too: the store does not say which it was.
+fn did_words(outcome: Outcome) -> &'static str
+    ensures { result.now ≡ ends.did_words outcome }
+{
+    match outcome {
+        Outcome::Failed => " aborted or released",
+        Outcome::Cancelled | Outcome::Complete => " aborted",
+    }
+}
+
 // Which devices failed.
 fn failed_words(
     alloc: Global,
+    outcome: Outcome,
     devices: &[DeviceNo],
     names: &Names<'_>,
 ) -> Result<String, AllocError>
-    ensures { IfOk result (λ text. string_bytes text ≡ ends.failed_words names.now devices.now) }
+    ensures { IfOk result (λ text. string_bytes text ≡ ends.failed_words names.now outcome devices.now) }
 {
     match devices {
         [] => Ok(String::new(alloc)),
         _ => {
             let mut text = devices_words(alloc, ": device", devices, names)?;
-            text.push_str(" aborted")?;
+            text.push_str(did_words(outcome))?;
             Ok(text)
         }
     }
@@ -124,7 +135,7 @@ fn end_front(alloc: Global, told: &Told) -> Result<String, AllocError>
 fn end_rest(alloc: Global, told: &Told, names: &Names<'_>) -> Result<String, AllocError>
     ensures { IfOk result (λ text. string_bytes text ≡ ends.end_rest names.now told.now) }
 {
-    let mut text = failed_words(alloc, told.failed.as_slice(), names)?;
+    let mut text = failed_words(alloc, told.outcome, told.failed.as_slice(), names)?;
     let excused = devices_words(alloc, " without device", told.excused.as_slice(), names)?;
     text.push_str(excused.as_str())?;
     Ok(text)

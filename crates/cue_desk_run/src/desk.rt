@@ -1,5 +1,6 @@
 //! The desk at work: it hears the controller, the files and the relay, has the machine make a view of each thing that
 //! it heard, and sends what the machine says. Nothing here waits but `wait`.
+use crate::alarms::{AlarmsFile, KeptAlarms};
 use crate::asks::Asks;
 use crate::clocks::{Beat, SteadyClock, wall_time};
 use crate::letters::letter_of;
@@ -27,6 +28,9 @@ const LOOK: u64 = 100;
 
 /// How many lie between two looks at what the relay writes.
 const RELAY: u64 = 500;
+
+/// How many lie between two looks at the alarms that are kept in a file.
+const ALARMS: u64 = 500;
 
 /// How many answers are heard in a round: one of each ask.
 const MAX_ANSWERS: u32 = 3;
@@ -62,10 +66,15 @@ pub struct Desk<'a, R> {
     fault: Option<io::Error>,
     store: Store,
     relay: Option<&'a str>,
+    alarms: Option<KeptAlarms<'a>>,
+    // Whether the alarms could not be kept, and why, until that is told.
+    has_lost: bool,
+    loss: Option<io::Error>,
     together: &'a [Group],
     ticks: Beat,
     looks: Beat,
     relays: Beat,
+    keeps: Beat,
 }
 
 // The first view, before anything was heard.
@@ -105,13 +114,28 @@ impl<'a, R: Files<File = File> + Net + Clock + AllocGlobal> Desk<'a, R> {
             fault: None,
             store: Store::new(dir),
             relay: sources.relay,
+            alarms: None,
+            has_lost: false,
+            loss: None,
             together: sources.together,
             ticks: Beat::of(TICK),
             looks: Beat::of(LOOK),
             relays: Beat::of(RELAY),
+            keeps: Beat::of(ALARMS),
         };
         desk.send(send);
         Ok(desk)
+    }
+
+    /// Keeps its alarms in this file from now on, or hears of those that another desk keeps there. A file that has
+    /// anything else is an error, and stays as it is.
+    pub fn keep_alarms(&mut self, file: AlarmsFile<'a>) -> io::Result<()> {
+        let (alarms, kept) = KeptAlarms::open(self.rt, file)?;
+        self.alarms = Some(alarms);
+        if let Some(kept) = kept {
+            let _ = self.hear(Heard::Kept(kept))?;
+        }
+        Ok(())
     }
 
     /// The newest view.
@@ -240,6 +264,59 @@ impl<'a, R: Files<File = File> + Net + Clock + AllocGlobal> Desk<'a, R> {
         Ok(())
     }
 
+    // Hears of the alarms that another desk keeps.
+    fn hear_alarms(&mut self) -> io::Result<()> {
+        let kept = match &mut self.alarms {
+            Some(alarms) => alarms.read(self.rt),
+            None => None,
+        };
+        match kept {
+            Some(kept) => self.hear(Heard::Kept(kept)).map(|_| ()),
+            None => Ok(()),
+        }
+    }
+
+    // Keeps the alarms, if they are kept. If that fails, it is tried again.
+    fn write_alarms(&mut self) {
+        let Some(alarms) = &mut self.alarms else {
+            return;
+        };
+        let Ok(kept) = self.station.kept(self.rt.alloc()) else {
+            return;
+        };
+        match alarms.keep(self.rt, &kept) {
+            Ok(()) => self.has_lost = false,
+            Err(why) => {
+                if !self.has_lost {
+                    self.loss = Some(why);
+                }
+                self.has_lost = true;
+            }
+        }
+    }
+
+    // Looks at the file of the alarms.
+    fn look_at_alarms(&mut self) -> io::Result<()> {
+        let now = self.now()?;
+        let is_own = match &self.alarms {
+            Some(alarms) => alarms.is_own(),
+            None => return Ok(()),
+        };
+        if !self.keeps.is_due(now) {
+            return Ok(());
+        }
+        if is_own {
+            self.write_alarms();
+            return Ok(());
+        }
+        self.hear_alarms()
+    }
+
+    /// Why the alarms could not be kept, once, if they could not be since.
+    pub fn take_loss(&mut self) -> Option<io::Error> {
+        self.loss.take()
+    }
+
     // Lets time pass, if a question for the status is due or no view was made for a while.
     fn tick(&mut self) -> io::Result<()> {
         let now = self.now()?;
@@ -254,6 +331,7 @@ impl<'a, R: Files<File = File> + Net + Clock + AllocGlobal> Desk<'a, R> {
         self.hear_answers()?;
         self.look_at_store()?;
         self.look_at_relay()?;
+        self.look_at_alarms()?;
         self.tick()
     }
 

@@ -35,6 +35,7 @@
 #![tactic(auto)]
 
 mod addresses;
+mod alarms;
 mod asks;
 mod clocks;
 mod desk;
@@ -47,6 +48,7 @@ mod relay;
 mod stamps;
 
 pub use addresses::local;
+pub use alarms::AlarmsFile;
 pub use clocks::{Beat, wall_time};
 pub use desk::{Desk, Sources};
 pub use orders::ask_once;

@@ -39,7 +39,9 @@ abbrev pub view_data : ℕ → List Group → View → Data
 view_data port groups v =
     object (member (codes "alarms") (array (items_of (map (alarm_data port v.at) v.alarms.items)))
     (member (codes "back") (back_data v.back)
+    (member (codes "before") (said_data port v.before)
     (member (codes "chosen") (chosen_data v.chosen)
+    (member (codes "failed") (array (items_of (map told_data v.failed.items)))
     (member (codes "last") (told_or_null v.last)
     (member (codes "lit") (array (items_of (map button_data (filter is_other v.lit.items))))
     (member (codes "live") (array (items_of (map (attempt_data v.at) v.live.items)))
@@ -52,20 +54,22 @@ view_data port groups v =
     (member (codes "said") (said_data port v.said)
     (member (codes "served") (age_data v.at v.served)
     (member (codes "stack") (array (items_of (map number_data v.stack.items)))
-    (member (codes "unsent") (unsent_data v.unsent) no_members))))))))))))))))
+    (member (codes "unsent") (unsent_data v.unsent) no_members))))))))))))))))))
 
 -- the first half of the parts, each by its name, and more members after them
 abbrev pub first_members : FirstHalf → Members → Members
 first_members p more =
     member (codes "alarms") (view p.alarms)
     (member (codes "back") (view p.back)
+    (member (codes "before") (view p.before)
     (member (codes "chosen") (view p.chosen)
+    (member (codes "failed") (view p.failed)
     (member (codes "last") (view p.last)
     (member (codes "lit") (view p.lit)
     (member (codes "live") (view p.live)
     (member (codes "moves") (boolean p.moves)
     (member (codes "network") (view p.network)
-    (member (codes "next") (view p.next) more))))))))
+    (member (codes "next") (view p.next) more))))))))))
 
 -- the second half
 abbrev pub second_members : SecondHalf → Members

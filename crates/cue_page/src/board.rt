@@ -64,7 +64,9 @@ fn back_value(alloc: Global, back: Option<CueNo>) -> Result<Value, AllocError>
 struct FirstHalf {
     alarms: Value,
     back: Value,
+    before: Value,
     chosen: Value,
+    failed: Value,
     last: Value,
     lit: Value,
     live: Value,
@@ -92,7 +94,9 @@ fn first_members(alloc: Global, half: FirstHalf) -> Result<Map<String, Value>, A
     let FirstHalf {
         alarms,
         back,
+        before,
         chosen,
+        failed,
         last,
         lit,
         live,
@@ -103,7 +107,9 @@ fn first_members(alloc: Global, half: FirstHalf) -> Result<Map<String, Value>, A
     let mut map = Map::new(alloc);
     put(&mut map, alloc, "alarms", alarms)?;
     put(&mut map, alloc, "back", back)?;
+    put(&mut map, alloc, "before", before)?;
     put(&mut map, alloc, "chosen", chosen)?;
+    put(&mut map, alloc, "failed", failed)?;
     put(&mut map, alloc, "last", last)?;
     put(&mut map, alloc, "lit", lit)?;
     put(&mut map, alloc, "live", live)?;
@@ -166,7 +172,9 @@ fn parts_of(alloc: Global, shown: &View, port: u16, groups: &[Group]) -> Result<
     let first = FirstHalf {
         alarms: alarms_value(alloc, &shown.alarms, at, port)?,
         back: back_value(alloc, shown.back)?,
+        before: said_value(alloc, shown.before, port)?,
         chosen: chosen_value(shown.chosen),
+        failed: past_value(alloc, &shown.failed)?,
         last: told_or_null(alloc, shown.last.as_ref())?,
         lit: others_value(alloc, &shown.lit)?,
         live: live_value(alloc, &shown.live, at)?,

@@ -19,14 +19,13 @@ ghost use Rattle.clap.specs.Words.{fault_of, subcommand_of};
 ghost use Rattle.cue_core.specs.State.{empty_state};
 ghost use Rattle.cue_command_line.specs.Lines.{AsksForText, IsHelp, IsNoCommand, cuectl_app};
 ghost use Rattle.cue_keeper.specs.Observed.{is_broken};
-ghost use Rattle.cue_engine.specs.Observed.{state_of, keeper_of};
+ghost use Rattle.cue_engine.specs.Observed.{keeper_of};
 ghost use Rattle.cue_program.specs.Endings.{run_fault, unbound_fault};
 ghost use Rattle.cue_program.specs.Performing.{
   EndsSo,
   HasEnded,
   IsRunTold,
   NamesScript,
-  formed_text,
   turns_text,
 };
 ghost use Rattle.cue_script.specs.Script.{HasRun};
@@ -35,6 +34,7 @@ ghost use Rattle.cue_program.specs.declared.program.fault.ProgramFault.TheVarian
 
 pub mod fault;
 mod files;
+mod forming;
 mod lock;
 pub(crate) mod looking;
 mod place;
@@ -51,7 +51,8 @@ use cue_run::{
 };
 use cue_script::script;
 use fault::{ProgramFault, print_fault, run_fault, status_of};
-use files::{create_both, open_both, refused_store, say, say_failures};
+use files::{open_both, refused_store, say, say_failures};
+use forming::form;
 use lock::lock_store;
 use looking::show;
 use place::{Place, PlaceWatch};
@@ -73,43 +74,6 @@ fn print<W: Write>(writer: &mut W, text: &[u8]) -> Result<(), ProgramFault>
             Err(_) => Err(ProgramFault::Io),
         },
         Err(_) => Err(ProgramFault::Io),
-    }
-}
-
-// The engine of an empty show on two files. It is asked for if it is said that one was formed.
-fn form_on<R: Eprint>(
-    rt: &R,
-    alloc: Global,
-    dir: &str,
-    first: FileDisk,
-    second: FileDisk,
-) -> Result<Engine<FileDisk>, ProgramFault>
-    ensures { IfOk result (λ engine. state_of engine ≡ empty_state) }
-{
-    match Engine::form(alloc, first, second) {
-        Ok(engine) => Ok(engine),
-        Err(refused) => Err(refused_store(rt, dir, refused)),
-    }
-}
-
-// Makes an empty show in a folder. Its engine is the witness that it was formed.
-fn form<R: Files<File = File> + Eprint, W: Write>(
-    rt: &R,
-    alloc: Global,
-    dir: &str,
-    writer: &mut W,
-) -> Result<Engine<FileDisk>, ProgramFault>
-    ensures formed { IfOk result (λ engine. state_of engine ≡ empty_state) }
-    ensures printed { OnOk result (Appends (W.contents writer.old) (W.contents writer.new) formed_text) }
-{
-    let (first, second) = create_both(rt, alloc, dir)?;
-    let engine = form_on(rt, alloc, dir, first, second)?;
-    match print(writer, b"formed\n") {
-        Ok(()) => Ok(engine),
-        Err(fault) => {
-            drop(engine);
-            Err(fault)
-        }
     }
 }
 

@@ -2,6 +2,7 @@
 use cue_relay::status::{Status, written};
 use cue_relay::{Contact, Counts, Happening, Message, News, Opening, Route, Watch};
 use cue_saying::{print, say};
+use jiff::Timestamp;
 use std::alloc::{AllocError, Global};
 use std::fs::{self, File, Files, OpenOptions};
 use std::io::{self, Eprint, ErrorKind, Write};
@@ -48,6 +49,15 @@ fn words(news: News) -> &'static str {
     }
 }
 
+// The second of this time, as the log of `serve` has it, and a space; nothing after the year 9999.
+fn date_of(alloc: Global, now: u64) -> Result<String, AllocError> {
+    let second = i64::try_from(now / 1000).unwrap_or(i64::MAX);
+    match Timestamp::from_second(second) {
+        Ok(time) => format!(in alloc; "{time} "),
+        Err(_) => Ok(String::new(alloc)),
+    }
+}
+
 // If the status is written first.
 fn status_file<'a>(alloc: Global, path: &'a str) -> Result<StatusFile<'a>, AllocError> {
     Ok(StatusFile {
@@ -82,15 +92,26 @@ impl<'a, R: Files<File = File> + Eprint + AllocGlobal, W: Write> Reporter<'a, R,
         })
     }
 
-    // Says something of the device of a route. A line that cannot be written is left out: the relay goes on.
-    fn tell(&mut self, route: usize, news: Option<News>) {
+    // Prints a line with its time. One that cannot be written is left out: the relay goes on.
+    fn print_line(&mut self, now: u64, said: &str) {
+        let alloc = self.rt.alloc();
+        let Ok(date) = date_of(alloc, now) else {
+            return;
+        };
+        if let Ok(line) = format!(in alloc; "{}{said}\n", date.as_str()) {
+            let _ = print(self.writer, line.as_str());
+        }
+    }
+
+    // Says something of the device of a route.
+    fn tell(&mut self, now: u64, route: usize, news: Option<News>) {
         let (Some(news), Some(route)) = (news, self.routes.get(route)) else {
             return;
         };
         let (device, address) = (route.device.number(), route.address);
         let words = words(news);
-        if let Ok(line) = format!(in self.rt.alloc(); "device {device} at {address}: {words}\n") {
-            let _ = print(self.writer, line.as_str());
+        if let Ok(said) = format!(in self.rt.alloc(); "device {device} at {address}: {words}") {
+            self.print_line(now, said.as_str());
         }
     }
 
@@ -100,7 +121,7 @@ impl<'a, R: Files<File = File> + Eprint + AllocGlobal, W: Write> Reporter<'a, R,
             Some(contact) => contact.take(message, now),
             None => None,
         };
-        self.tell(at.route, news);
+        self.tell(now, at.route, news);
     }
 
     // Says which devices fall silent.
@@ -110,7 +131,7 @@ impl<'a, R: Files<File = File> + Eprint + AllocGlobal, W: Write> Reporter<'a, R,
                 Some(contact) => contact.pass(now),
                 None => None,
             };
-            self.tell(route, news);
+            self.tell(now, route, news);
         }
     }
 
@@ -123,8 +144,8 @@ impl<'a, R: Files<File = File> + Eprint + AllocGlobal, W: Write> Reporter<'a, R,
         let more = dropped.saturating_sub(self.dropped);
         self.dropped = dropped;
         self.dropped_at = now;
-        if let Ok(line) = format!(in self.rt.alloc(); "{more} datagrams dropped: {DROPPED}\n") {
-            let _ = print(self.writer, line.as_str());
+        if let Ok(said) = format!(in self.rt.alloc(); "{more} datagrams dropped: {DROPPED}") {
+            self.print_line(now, said.as_str());
         }
     }
 

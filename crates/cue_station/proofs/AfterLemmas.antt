@@ -25,18 +25,20 @@ use Rattle.cue_station.specs.declared.memory.Seen.{Seen}
 use Rattle.cue_station.specs.declared.memory.Shown.{Shown}
 use Rattle.cue_station.specs.declared.station.Made.{Made}
 use Rattle.cue_station.specs.declared.station.Station.{Station}
+use Rattle.cue_view.specs.declared.view.Told.{Told}
 use Rattle.cue_station.specs.Turns.{Turn}
-use Rattle.cue_station.specs.Alarms.{acknowledged_by, differs_by, failures_by, lasting, newest, nobody_by}
+use Rattle.cue_station.specs.Alarms.{acknowledged_by, acknowledged_of, differs_by, lasting, nobody_by}
 use Rattle.cue_station.specs.Alarms.{stands_by, trouble_with}
 use Rattle.cue_station.specs.Asking.{followed, going_by, going_of, if_open, is_final, is_open, is_open_ask}
 use Rattle.cue_station.specs.Asking.{is_press_sent, is_quiet, newest_of, presses_of, sent_press}
 use Rattle.cue_station.specs.Choosing.{chosen_by_press, chosen_by_sending, chosen_number, chosen_of, found_in, grown}
 use Rattle.cue_station.specs.Choosing.{is_refused}
+use Rattle.cue_station.specs.Keeping.{failed_after, with_kept}
 use Rattle.cue_station.specs.Lighting.{footing_of, is_live_as, is_ready, is_number, may, may_by}
 use Rattle.cue_station.specs.Memory.{IsAfter, IsKept, is_beside, is_cancel, open_in, turn_of}
 use Rattle.cue_station.specs.Moving.{moved_by, place_by}
 use Rattle.cue_station.specs.Network.{relayed_with}
-use Rattle.cue_station.specs.Noting.{beside_after, footing_by, order_by, press_after, send_by, waits_by}
+use Rattle.cue_station.specs.Noting.{before_after, beside_after, footing_by, order_by, press_after, send_by, waits_by}
 use Rattle.cue_station.specs.Offering.{is_offered, kept_in, kept_of}
 use Rattle.cue_station.specs.Opening.{has_ask, is_some_final}
 use Rattle.cue_station.specs.Pressing.{ask_after, is_heeded, order_of}
@@ -46,7 +48,7 @@ use Rattle.cue_station.specs.Seeing.{seen_after}
 use Rattle.cue_station.specs.Showing.{given_in, given_since, since_in}
 use Rattle.cue_station.specs.Stepping.{Makes, is_heeded_by, kept_with, noted_now, reading_now, shown_in}
 use Rattle.cue_show.specs.Number.{same_text}
-use Rattle.cue_station.proofs.OpenLemmas.{LeavesOne, beside_followed, leaves_one, newest-sent, one_open, still_closed}
+use Rattle.cue_station.proofs.OpenLemmas.{LeavesOne, beside_followed, leaves_one, newest-sent, one_open, second-sent, still_closed}
 use Rattle.cue_station.proofs.OpenLemmas.{gone_beside, was_open}
 use Rattle.cue_station.proofs.PressLemmas.{all-filter, any-filter, ask-two, final-two, newest-map, none-filter}
 use Rattle.cue_station.proofs.PressLemmas.{none_in, none_in-two, open_followed}
@@ -128,9 +130,9 @@ may-since f s t e (Some r) (button.Choose q) = refl
 may-since f s t e (Some r) (button.Seen q) = refl
 
 pub may-kept : (turns : List Turn) (n : Notes) (r : Option Reading) (relay : Option Relayed) (seen : List Seen)
-    (views : List Shown) → IsKept turns n r relay seen views → (now wall : ℕ) (b : Button)
-    → may_by (footing_by n r now wall) (since_in seen) r b ≡ may turns now wall b
-may-kept turns n r relay seen views k now wall b =
+    (failures : List Told) (views : List Shown) → IsKept turns n r relay seen failures views → (now wall : ℕ)
+    (b : Button) → may_by (footing_by n r now wall) (since_in seen) r b ≡ may turns now wall b
+may-kept turns n r relay seen failures views k now wall b =
     ap (λ f. may_by f (since_in seen) r b)
     (footing-kept turns n r k.reading k.answered k.choice k.press k.opened now wall)
     ∙ ap (λ o. may_by (footing_of turns now wall) (since_in seen) o b) k.reading
@@ -143,7 +145,7 @@ heeded-kept past s k i view b =
     && may_by (footing_by s.notes s.reading i.at i.wall) (since_in s.seen.items) s.reading b)
     k.views
     ∙ ap (λ m. is_offered view i.at b (kept_of past) && m)
-    (may-kept past s.notes s.reading s.relay s.seen.items s.views.items k i.at i.wall b)
+    (may-kept past s.notes s.reading s.relay s.seen.items s.failed.items s.views.items k i.at i.wall b)
 
 -- ---- the presses once this was heard
 
@@ -221,6 +223,7 @@ sent_by_heard (heard.Nobody n) at send r press beside all e k g = keeps_none r p
 sent_by_heard (heard.Pressed v b) at send r press beside all e k g =
     keeps_pressed r at b v send press beside all e k (λ h. (g v b refl h).one) (λ h. (g v b refl h).final)
 sent_by_heard (heard.Relay x) at send r press beside all e k g = keeps_none r press beside all e k
+sent_by_heard (heard.Kept x) at send r press beside all e k g = keeps_none r press beside all e k
 sent_by_heard heard.Tick at send r press beside all e k g = keeps_none r press beside all e k
 
 -- a press is sent only if it is heeded
@@ -267,6 +270,7 @@ pub record Noted (past : List Turn) (s : Station) (i : Input) : Type 0 where
   pub answered : (noted_now s i).answered ≡ answered_next past i
   pub press : (noted_now s i).press ≡ option_map (next_of past i) s.notes.press
   pub beside : (noted_now s i).beside ≡ if_open (reading_next past i) (option_map (next_of past i) s.notes.beside)
+  pub before : (noted_now s i).before ≡ option_map (next_of past i) s.notes.before
   pub waits : (n : ℕ) → waits_by (reading_now s i) (noted_now s i) n
       ≡ is_open_ask n (reading_next past i) (map (next_of past i) (presses_of past))
 
@@ -287,6 +291,7 @@ noted past s k i =
       answered = ea;
       press = ep;
       beside = eb;
+      before = ap (λ (f : Pending → Pending). option_map f s.notes.before) ef;
       waits = λ n.
           ap (λ r. has_ask n (if_open r (noted_now s i).press) || has_ask n (noted_now s i).beside) er
           ∙ ap₂ (λ p b. has_ask n (if_open (reading_next past i) p) || has_ask n b) ep eb
@@ -314,7 +319,7 @@ choice-kept past s k i =
 -- What is kept after a turn says what the evening says with that turn.
 pub step-after : (past : List Turn) (s : Station) (i : Input) (m : Made) → IsAfter past s → Makes s i m
     → IsKept (turn_of i m.step ∷ past) m.notes (reading_now s i) (relayed_with i.heard i.at s.relay) m.seen.items
-    (kept_with m.shown s.views.items)
+    m.failed.items (kept_with m.shown s.views.items)
 step-after past s i m k makes =
     let t = turn_of i m.step in
     let n = noted past s k i in
@@ -331,6 +336,15 @@ step-after past s i m k makes =
     ap (λ (x : Notes). x.press) makes.notes
     ∙ ap (λ x. press_after (sent_press i.heard i.at x m.step.send) (noted_now s i).press) n.reading
     ∙ ap (press_after sent) n.press in
+    let before = option_map f s.notes.before in
+    let ef : m.notes.before ≡ before_after sent press before =
+    ap (λ (x : Notes). x.before) makes.notes
+    ∙ ap (λ x. before_after (sent_press i.heard i.at x m.step.send) (noted_now s i).press (noted_now s i).before)
+    n.reading
+    ∙ ap₂ (λ p b. before_after sent p b) n.press n.before in
+    let es : m.notes.acknowledged ≡ acknowledged_of (t ∷ past) =
+    ap (λ (x : Notes). x.acknowledged) makes.notes
+    ∙ ap₂ (λ v o. acknowledged_by i.heard i.at v o) k.views k.acknowledged in
     let eb : m.notes.beside ≡ beside_after r sent press beside =
     ap (λ (x : Notes). x.beside) makes.notes
     ∙ ap (λ x. beside_after x (sent_press i.heard i.at x m.step.send) (noted_now s i).press (noted_now s i).beside)
@@ -348,10 +362,10 @@ step-after past s i m k makes =
       differs = ap (λ (x : Notes). x.differs) makes.notes
           ∙ ap₂ (λ a o. lasting (differs_by i.at a o) i.at s.notes.differs) n.answered n.reading
           ∙ ap (lasting (differs_by i.at (answered_next past i) r) i.at) k.differs;
-      failed = ap (λ (x : Notes). x.failed) makes.notes
-          ∙ ap₂ (λ o v. newest (failures_by o) v) n.reading k.failed;
-      acknowledged = ap (λ (x : Notes). x.acknowledged) makes.notes
-          ∙ ap₂ (λ v o. acknowledged_by i.heard i.at v o) k.views k.acknowledged;
+      failed = makes.failed
+          ∙ ap₂ (λ a o. failed_after a o (with_kept i.heard s.failed.items)) es n.reading
+          ∙ ap (λ l. failed_after (acknowledged_of (t ∷ past)) r (with_kept i.heard l)) k.failed;
+      acknowledged = es;
       relay = ap (relayed_with i.heard i.at) k.relay;
       since = λ q. ap (λ v. since_in v q) makes.seen
           ∙ ap (λ o. since_in (seen_after s.seen.items i.at o) q) n.reading
@@ -365,6 +379,7 @@ step-after past s i m k makes =
       views = ap (λ x. kept_with x s.views.items) makes.shown ∙ ap (kept_with (shown_in m.step.view)) k.views
           ∙ take_front KEPT_VIEWS (kept_in t) (map kept_in past);
       press = ep ∙ newest-sent sent f s.notes.press (presses_of past) k.press;
+      before = ef ∙ second-sent sent f s.notes.press s.notes.before (presses_of past) k.press k.before;
       opened = ap₂ (λ p b. open_in r p b) ep eb ∙ keeps.opened;
       beside = ap₂ (λ p b. is_beside p b) ep eb ∙ keeps.beside_is;
     }

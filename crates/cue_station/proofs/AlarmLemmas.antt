@@ -9,7 +9,7 @@ use Rattle.cue_station.specs.declared.alarms.Facts.{Facts}
 use Rattle.cue_station.specs.declared.limits.TheConstants.{COPY_MS, OTHER_MS, SHOWN_MS, STATUS_MS}
 use Rattle.cue_view.specs.declared.view.Alarm.{Alarm}
 use Rattle.cue_view.specs.declared.view.Alarm.TheVariants as alarm
-use Rattle.cue_station.specs.Alarms.{doubt, either_by, failed_by, is_within, not_shown, not_shown_by, old_by}
+use Rattle.cue_station.specs.Alarms.{doubt, either_by, is_within, not_shown, not_shown_by, old_by}
 use Rattle.cue_station.specs.Alarms.{old_store, other_by, other_store, relay_stopped}
 use Rattle.cue_station.specs.Alarms.{silence}
 use Rattle.cue_station.specs.Alarms.{silence_by, silent_in, stopped_by}
@@ -109,13 +109,13 @@ pub silence_said : SilenceIsSaid
 silence_said f back failures network =
     first_only is_silence (option_to_list (silence f)) (option_to_list (doubt f))
     (option_to_list (relay_stopped f))
-    (option_to_list (old_store f)) (map alarm.ClockPutBack back) (map alarm.Failed (failed_by f failures))
+    (option_to_list (old_store f)) (map alarm.ClockPutBack back) (map alarm.Failed failures)
     (map alarm.DeviceSilent (silent_in network)) (not (is_within STATUS_MS f.at f.asked))
     (silence_of (is_within STATUS_MS f.at f.asked) f.nobody f.asked) (none_doubt is_silence (λ s. refl) (λ s. refl) f)
     (none_stopped is_silence (λ s. refl) f.stamped f.at)
     (no_silence (is_within COPY_MS f.at f.read) f.trouble f.read)
     (any_of_none is_silence alarm.ClockPutBack (λ x. refl) back)
-    (any_of_none is_silence alarm.Failed (λ x. refl) (failed_by f failures))
+    (any_of_none is_silence alarm.Failed (λ x. refl) failures)
     (any_of_none is_silence alarm.DeviceSilent (λ x. refl) (silent_in network))
 
 -- ---- age
@@ -135,10 +135,10 @@ age_of false (Some w) read = refl
 pub age_said : AgeIsSaid
 age_said f back failures network =
     fourth_only is_age (option_to_list (silence f)) (option_to_list (doubt f)) (option_to_list (relay_stopped f))
-    (option_to_list (old_store f)) (map alarm.ClockPutBack back) (map alarm.Failed (failed_by f failures))
+    (option_to_list (old_store f)) (map alarm.ClockPutBack back) (map alarm.Failed failures)
     (map alarm.DeviceSilent (silent_in network)) (not (is_within COPY_MS f.at f.read))
     (no_age (is_within STATUS_MS f.at f.asked) f.nobody f.asked) (none_doubt is_age (λ s. refl) (λ s. refl) f)
     (none_stopped is_age (λ s. refl) f.stamped f.at) (age_of (is_within COPY_MS f.at f.read) f.trouble f.read)
     (any_of_none is_age alarm.ClockPutBack (λ x. refl) back)
-    (any_of_none is_age alarm.Failed (λ x. refl) (failed_by f failures))
+    (any_of_none is_age alarm.Failed (λ x. refl) failures)
     (any_of_none is_age alarm.DeviceSilent (λ x. refl) (silent_in network))

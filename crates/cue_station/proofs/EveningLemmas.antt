@@ -44,7 +44,8 @@ plays-same old mid new heard steps p same = λ past law after.
       law = q.law;
       after = kept_as (turns_with past heard steps) mid.notes new.notes (sym same.notes)
           mid.reading new.reading (sym same.reading) mid.relay new.relay (sym same.relay)
-          mid.seen.items new.seen.items (sym same.seen) mid.views.items new.views.items (sym same.views) q.after;
+          mid.seen.items new.seen.items (sym same.seen) mid.failed.items new.failed.items (sym same.failed)
+          mid.views.items new.views.items (sym same.views) q.after;
     }
 
 -- nothing was heard

@@ -1,6 +1,6 @@
 -- That a failure was seen can be said exactly where its alarm is shown.
 use Rattle.std.proofs.Common.{◌≡◌, refl, sym, ap, ap₂, ◌∙◌, ℕ, Bool, true, false, ◌||◌, cond, List, [], ◌∷◌, ◌++◌}
-use Rattle.std.proofs.Common.{map, filter, Option, None, Some, nat_eq, nat_le}
+use Rattle.std.proofs.Common.{map, filter, Option, None, Some, nat_eq}
 use Rattle.std.proofs.lemmas.List.Elements.{filter-append}
 use Rattle.std.proofs.lemmas.List.Folds.{list_any-append}
 use Rattle.std.specs.List.{list_any, filter_map, flat_map}
@@ -19,22 +19,20 @@ use Rattle.cue_view.specs.declared.view.Next.TheVariants as next
 use Rattle.cue_view.specs.declared.view.Trouble.{Trouble}
 use Rattle.cue_station.specs.declared.alarms.Facts.{Facts}
 use Rattle.cue_station.specs.declared.heard.Copied.{Copied}
-use Rattle.cue_station.specs.declared.heard.Heard.{Heard}
-use Rattle.cue_station.specs.declared.heard.Heard.TheVariants as heard
 use Rattle.cue_station.specs.declared.lighting.Footing.{Footing}
 use Rattle.cue_station.specs.declared.limits.TheConstants.{COPY_MS, STATUS_MS}
 use Rattle.cue_station.specs.declared.memory.Reading.{Reading}
 use Rattle.cue_station.specs.declared.memory.Seen.{Seen}
 use Rattle.cue_station.specs.Turns.{Turn}
-use Rattle.cue_station.specs.Alarms.{alarms_by, beside, failed_by, failed_of, failures_by, is_within, newest, old_by}
+use Rattle.cue_station.specs.Alarms.{alarms_by, is_within, old_by}
 use Rattle.cue_station.specs.Alarms.{doubt, old_store, put_back_in, relay_stopped, silence, silence_by, silent_in}
-use Rattle.cue_station.specs.Alarms.{unseen}
-use Rattle.cue_station.specs.Drawing.{alarms_of, facts_of, live_by}
+use Rattle.cue_station.specs.Drawing.{alarms_of, facts_of, failures_shown, live_by}
 use Rattle.cue_station.specs.Following.{next_in}
+use Rattle.cue_station.specs.Keeping.{failed_of, numbers_of, shown_failures}
 use Rattle.cue_station.specs.Lighting.{go_and_cancel, keys_of, keys_of_choice, may_in, standby_of}
 use Rattle.cue_station.specs.Network.{network_by, relayed_of}
 use Rattle.cue_station.specs.Offering.{is_lit, same_button}
-use Rattle.cue_station.specs.Reading.{read_with, reading_of, seen_since}
+use Rattle.cue_station.specs.Reading.{reading_of, seen_since}
 use Rattle.cue_station.specs.Showing.{since_in}
 use Rattle.cue_station.specs.Smaller.{failure_of, is_failure_of, of_attempt, smaller_of}
 use Rattle.cue_station.specs.Viewing.{LightsBy}
@@ -126,28 +124,6 @@ failures-there q (alarm.DeviceSilent d ∷ all) = failures-there q all
 
 -- ---- before a copy was read there is none
 
-some_is : (b : Bool) (x y : Reading) → cond b (Some x) (Some y) ≡ None → ⊥
-some_is true x y h = (cc)
-some_is false x y h = (cc)
-
-unread_before : (h : Heard) (r : Option Reading) → read_with h r ≡ None → r ≡ None
-unread_before h None e = refl
-unread_before (heard.Copied c) (Some r) e =
-    absurd (some_is (nat_le r.at c.begun) (record { at = c.begun; copy = c }) r e)
-unread_before (heard.Same begun) (Some r) e = absurd (cc)
-unread_before (heard.Unread why) (Some r) e = e
-unread_before (heard.Replied n a) (Some r) e = e
-unread_before (heard.Nobody n) (Some r) e = e
-unread_before (heard.Pressed v b) (Some r) e = e
-unread_before (heard.Relay x) (Some r) e = e
-unread_before heard.Tick (Some r) e = e
-
-unread-unfailed : (turns : List Turn) → reading_of turns ≡ None → failed_of turns ≡ None
-unread-unfailed [] h = refl
-unread-unfailed (t ∷ past) h =
-    ap (λ r. newest (failures_by r) (failed_of past)) h
-    ∙ unread-unfailed past (unread_before t.input.heard (reading_of past) h)
-
 no_silence : (q : ℕ) (alive nobody : Bool) (asked : Option ℕ)
     → list_any (is_failure_of q) (option_to_list (silence_by alive nobody asked)) ≡ false
 no_silence q true nobody asked = refl
@@ -160,31 +136,26 @@ no_age q true why read = refl
 no_age q false None read = refl
 no_age q false (Some w) read = refl
 
-no_failures : (q : ℕ) (acknowledged : List ℕ) (failed : Option ℕ) (failures : List ℕ) → failed ≡ None → failures ≡ []
-    → list_any (is_failure_of q) (map alarm.Failed (unseen acknowledged (beside failed failures ++ failures))) ≡ false
-no_failures q acknowledged failed failures e h =
-    ap₂ (λ o qs. list_any (is_failure_of q) (map alarm.Failed (unseen acknowledged (beside o qs ++ qs)))) e h
-
-none_failed : (q : ℕ) (f : Facts) (back failures : List ℕ) (network : List Contacted) → f.failed ≡ None
-    → failures ≡ [] → list_any (is_failure_of q) (alarms_by f back failures network) ≡ false
-none_failed q f back failures network e h =
+none_failed : (q : ℕ) (f : Facts) (back failures : List ℕ) (network : List Contacted) → failures ≡ []
+    → list_any (is_failure_of q) (alarms_by f back failures network) ≡ false
+none_failed q f back failures network h =
     first_only (is_failure_of q) (option_to_list (silence f)) (option_to_list (doubt f))
     (option_to_list (relay_stopped f)) (option_to_list (old_store f)) (map alarm.ClockPutBack back)
-    (map alarm.Failed (failed_by f failures)) (map alarm.DeviceSilent (silent_in network)) false
+    (map alarm.Failed failures) (map alarm.DeviceSilent (silent_in network)) false
     (no_silence q (is_within STATUS_MS f.at f.asked) f.nobody f.asked)
     (none_doubt (is_failure_of q) (λ s. refl) (λ s. refl) f)
     (none_stopped (is_failure_of q) (λ s. refl) f.stamped f.at)
     (no_age q (is_within COPY_MS f.at f.read) f.trouble f.read)
     (any_of_none (is_failure_of q) alarm.ClockPutBack (λ x. refl) back)
-    (no_failures q f.acknowledged f.failed failures e h)
+    (ap (λ qs. list_any (is_failure_of q) (map alarm.Failed qs)) h)
     (any_of_none (is_failure_of q) alarm.DeviceSilent (λ x. refl) (silent_in network))
 
 unread-none : (turns : List Turn) (now wall q : ℕ) → reading_of turns ≡ None
     → list_any (is_failure_of q) (alarms_of turns now wall) ≡ false
 unread-none turns now wall q h =
     none_failed q (facts_of turns now) (put_back_in (λ p. seen_since p turns) now wall (live_by (reading_of turns)))
-    (failures_by (reading_of turns)) (network_by (relayed_of turns) now) (unread-unfailed turns h)
-    (ap failures_by h)
+    (numbers_of (failures_shown turns)) (network_by (relayed_of turns) now)
+    (ap (λ o. numbers_of (shown_failures o (failed_of turns))) h)
 
 -- ---- both
 

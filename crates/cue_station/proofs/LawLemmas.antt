@@ -1,5 +1,5 @@
 -- A step keeps the law.
-use Rattle.std.proofs.Common.{◌≡◌, refl, sym, ap, ap₂, ◌∙◌, subst, ℕ, Bool, true, false, ◌&&◌, cond, List, [], ◌∷◌}
+use Rattle.std.proofs.Common.{◌≡◌, refl, sym, ap, ap₂, ◌∙◌, subst, ℕ, Bool, true, ◌&&◌, cond, List, [], ◌∷◌}
 use Rattle.std.proofs.Common.{map, filter}
 use Rattle.std.proofs.Common.{Option, None, Some, is_some, IsTrue, option_map, ◌⊎◌, inl, inr, ⊎_elim}
 use Rattle.std.specs.List.{list_any}
@@ -25,15 +25,17 @@ use Rattle.cue_station.specs.declared.memory.Shown.{Shown}
 use Rattle.cue_station.specs.declared.station.Made.{Made}
 use Rattle.cue_station.specs.declared.station.Station.{Station}
 use Rattle.cue_view.specs.declared.view.LiveAttempt.{LiveAttempt}
+use Rattle.cue_view.specs.declared.view.Told.{Told}
 use Rattle.cue_view.specs.declared.view.Unsent.{Unsent}
 use Rattle.cue_view.specs.declared.view.View.{View}
 use Rattle.cue_station.specs.Turns.{Turn}
-use Rattle.cue_station.specs.Alarms.{acknowledged_of, alarms_by, asked_at, differs_since, failed_of, failures_by}
+use Rattle.cue_station.specs.Alarms.{alarms_by, asked_at, differs_since}
 use Rattle.cue_station.specs.Alarms.{is_over_by, is_put_back, nobody_of, put_back_in}
 use Rattle.cue_station.specs.Alarms.{read_at, stands_by, trouble_of}
-use Rattle.cue_station.specs.Asking.{is_press_sent, is_tap, newest_of, presses_of, said_by, unshown_by, unshown_of}
+use Rattle.cue_station.specs.Asking.{is_press_sent, is_tap, newest_of, presses_of, said_by, unshown_by}
 use Rattle.cue_station.specs.Choosing.{chosen_number}
 use Rattle.cue_station.specs.Drawing.{ShowsReading, alarms_of, facts_of, live_by}
+use Rattle.cue_station.specs.Keeping.{numbers_of, shown_failures}
 use Rattle.cue_station.specs.Laws.{Keeps, LitIsSo, PressIsSo, StatusIsAsked}
 use Rattle.cue_station.specs.Lighting.{may, may_by}
 use Rattle.cue_station.specs.Memory.{IsAfter, IsKept, turn_of}
@@ -101,9 +103,8 @@ same_put_back s t e now wall [] = refl
 same_put_back s t e now wall (a ∷ live) =
     ap₂ (λ b xs. cond b (a ∷ xs) xs) (ap (λ o. is_over_by o now wall a) (e a.seq)) (same_put_back s t e now wall live)
 
-abbrev facts : ℕ → Option ℕ → Bool → Option ℕ → Option ℕ → Option ℕ → Option Trouble → Option ℕ → List ℕ → Option ℕ
-    → Facts
-facts now asked nobody differs stamped read trouble failed acknowledged unshown =
+abbrev facts : ℕ → Option ℕ → Bool → Option ℕ → Option ℕ → Option ℕ → Option Trouble → Option ℕ → Facts
+facts now asked nobody differs stamped read trouble unshown =
     record {
       at = now;
       asked = asked;
@@ -112,38 +113,34 @@ facts now asked nobody differs stamped read trouble failed acknowledged unshown 
       stamped = stamped;
       read = read;
       trouble = trouble;
-      failed = failed;
-      acknowledged = acknowledged;
       unshown = unshown;
     }
 
 facts-kept : (turns : List Turn) (n : Notes) (r : Option Reading) (relay : Option Relayed) (seen : List Seen)
-    (views : List Shown) → IsKept turns n r relay seen views → (now : ℕ)
+    (failures : List Told) (views : List Shown) → IsKept turns n r relay seen failures views → (now : ℕ)
     → facts_by n r relay now ≡ facts_of turns now
-facts-kept turns n r relay seen views k now =
-    ap₂ (λ a b. facts now (asked_at a) b n.differs (stamped_at relay) (read_at r) n.trouble n.failed n.acknowledged
-    (unshown_by n.press))
+facts-kept turns n r relay seen failures views k now =
+    ap₂ (λ a b. facts now (asked_at a) b n.differs (stamped_at relay) (read_at r) n.trouble (unshown_by n.press))
     k.answered k.nobody
     ∙ ap₂ (λ a b. facts now (asked_at (answered_of turns)) (nobody_of turns) a (stamped_at b) (read_at r) n.trouble
-    n.failed n.acknowledged (unshown_by n.press)) k.differs k.relay
+    (unshown_by n.press)) k.differs k.relay
     ∙ ap₂ (λ a b. facts now (asked_at (answered_of turns)) (nobody_of turns) (differs_since turns)
-    (stamped_at (relayed_of turns)) (read_at a) b n.failed n.acknowledged (unshown_by n.press)) k.reading k.trouble
-    ∙ ap₂ (λ a b. facts now (asked_at (answered_of turns)) (nobody_of turns) (differs_since turns)
-    (stamped_at (relayed_of turns)) (read_at (reading_of turns)) (trouble_of turns) a b (unshown_by n.press)) k.failed
-    k.acknowledged
+    (stamped_at (relayed_of turns)) (read_at a) b (unshown_by n.press)) k.reading k.trouble
     ∙ ap (λ p. facts now (asked_at (answered_of turns)) (nobody_of turns) (differs_since turns)
-    (stamped_at (relayed_of turns)) (read_at (reading_of turns)) (trouble_of turns) (failed_of turns)
-    (acknowledged_of turns) (unshown_by p)) k.press
+    (stamped_at (relayed_of turns)) (read_at (reading_of turns)) (trouble_of turns) (unshown_by p)) k.press
 
 alarms-kept : (turns : List Turn) (n : Notes) (r : Option Reading) (relay : Option Relayed) (seen : List Seen)
-    (views : List Shown) → IsKept turns n r relay seen views → (now wall : ℕ)
-    → alarms_in n r relay seen (failures_by r) (footing_by n r now wall) ≡ alarms_of turns now wall
-alarms-kept turns n r relay seen views k now wall =
-    ap₂ (λ f q. alarms_by f q (failures_by r) (network_by relay now))
-    (facts-kept turns n r relay seen views k now)
+    (failures : List Told) (views : List Shown) → IsKept turns n r relay seen failures views → (now wall : ℕ)
+    → alarms_in n r relay seen failures (footing_by n r now wall) ≡ alarms_of turns now wall
+alarms-kept turns n r relay seen failures views k now wall =
+    ap₂ (λ f q. alarms_by f q (numbers_of (shown_failures r failures)) (network_by relay now))
+    (facts-kept turns n r relay seen failures views k now)
     (ap (map (λ a. a.seq)) (same_put_back (since_in seen) (λ q. seen_since q turns) k.since now wall (live_by r)))
     ∙ ap₂ (λ o x. alarms_by (facts_of turns now) (put_back_in (λ q. seen_since q turns) now wall (live_by o))
-    (failures_by o) (network_by x now)) k.reading k.relay
+    (numbers_of (shown_failures o failures)) (network_by x now)) k.reading k.relay
+    ∙ ap (λ l. alarms_by (facts_of turns now)
+    (put_back_in (λ q. seen_since q turns) now wall (live_by (reading_of turns)))
+    (numbers_of (shown_failures (reading_of turns) l)) (network_by (relayed_of turns) now)) k.failed
 
 -- ---- what is sent
 
@@ -185,6 +182,7 @@ sends_by s i past due send (heard.Replied n a) h is = sends_no_press s i past du
 sends_by s i past due send (heard.Nobody n) h is = sends_no_press s i past due send is
 sends_by s i past due send (heard.Pressed view b) h is = sends_press s i past due send view b h is
 sends_by s i past due send (heard.Relay x) h is = sends_no_press s i past due send is
+sends_by s i past due send (heard.Kept x) h is = sends_no_press s i past due send is
 sends_by s i past due send heard.Tick h is = sends_no_press s i past due send is
 
 -- whether the message is that of a press
@@ -205,6 +203,7 @@ unsent-same f g e (heard.Replied n a) = refl
 unsent-same f g e (heard.Nobody n) = refl
 unsent-same f g e (heard.Pressed view b) = e view b
 unsent-same f g e (heard.Relay x) = refl
+unsent-same f g e (heard.Kept x) = refl
 unsent-same f g e heard.Tick = refl
 
 unsent-kept : (past : List Turn) (s : Station) → IsAfter past s → (i : Input) → unsent_now s i ≡ unsent_of past i
@@ -218,7 +217,7 @@ unsent-kept past s k i =
     (is_offered view i.at b s.views.items)
     (may_by (footing_by s.notes s.reading i.at i.wall) (since_in s.seen.items) s.reading b)) k.press
     ∙ ap₂ (λ v m. refusal_by (is_tap i.at b (newest_of (presses_of past))) (list_any (is_recent view i.at) v) (is_offered view i.at b v) m) k.views
-    (may-kept past s.notes s.reading s.relay s.seen.items s.views.items k i.at i.wall b)) i.heard
+    (may-kept past s.notes s.reading s.relay s.seen.items s.failed.items s.views.items k i.at i.wall b)) i.heard
 
 press-kept : (past : List Turn) (s : Station) (i : Input) (m : Made) → IsAfter past s → Makes s i m
     → PressIsSo (turn_of i m.step) past
@@ -263,7 +262,7 @@ lit-kept past s i m k makes =
     let after = step-after past s i m k makes in
     let same : (b : Button) → may_by (footing_by m.notes r i.at i.wall) (since_in m.seen.items) r b
     ≡ may turns i.at i.wall b =
-    λ b. may-kept turns m.notes r (relayed_with i.heard i.at s.relay) m.seen.items
+    λ b. may-kept turns m.notes r (relayed_with i.heard i.at s.relay) m.seen.items m.failed.items
     (kept_with m.shown s.views.items) after i.at i.wall b in
     let f = footing_by m.notes r i.at i.wall in
     let v = m.step.view in
@@ -278,7 +277,7 @@ lit-kept past s i m k makes =
       seen = seen-lit f m.seen.items r v.stack.items v.alarms.items v.lit.items makes.view.lit turns i.at i.wall
           after.reading
           (makes.view.alarms ∙ alarms-kept turns m.notes r (relayed_with i.heard i.at s.relay) m.seen.items
-          (kept_with m.shown s.views.items) after i.at i.wall);
+          m.failed.items (kept_with m.shown s.views.items) after i.at i.wall);
     }
 
 pub step-keeps : (past : List Turn) (s : Station) (i : Input) (m : Made) → IsAfter past s → Makes s i m
@@ -293,6 +292,7 @@ step-keeps past s i m k makes =
       press = press-kept past s i m k makes;
       asked = asked-kept past s i m k makes;
       answer = makes.view.said ∙ ap₂ (λ o p. option_map (said_by o) p) after.reading after.press;
+      before = makes.view.before ∙ ap₂ (λ o p. option_map (said_by o) p) after.reading after.before;
       age = record {
         made = makes.view.at;
         read = makes.view.read ∙ ap read_at after.reading;
@@ -308,7 +308,9 @@ step-keeps past s i m k makes =
       chosen = makes.view.chosen ∙ ap chosen_number after.choice;
       back = makes.view.back ∙ ap₂ (λ v o. back_by v (place_by o)) after.moved after.reading;
       alarm = makes.view.alarms
-          ∙ alarms-kept turns m.notes r relay m.seen.items (kept_with m.shown s.views.items) after i.at i.wall;
+          ∙ alarms-kept turns m.notes r relay m.seen.items m.failed.items (kept_with m.shown s.views.items) after i.at
+          i.wall;
+      failed = makes.view.failed ∙ ap₂ (λ o l. shown_failures o l) after.reading after.failed;
       network = makes.view.network ∙ ap (λ o. network_by o i.at) after.relay;
       newest = makes.number ∙ k.number;
     }

@@ -16,3 +16,4 @@ mod ViewLemmas
 mod MoveLemmas
 mod EveningLemmas
 mod SaidLemmas
+mod StayLemmas

@@ -8,7 +8,7 @@ use Rattle.cue_view.specs.declared.view.Trouble.{Trouble}
 use Rattle.cue_station.specs.declared.limits.TheConstants.{COPY_MS, OTHER_MS, SHOWN_MS, STATUS_MS}
 use Rattle.cue_view.specs.declared.view.Alarm.{Alarm}
 use Rattle.cue_view.specs.declared.view.Alarm.TheVariants as alarm
-use Rattle.cue_station.specs.Alarms.{either_by, failed_by, is_within, not_shown, not_shown_by, old_by, other_by}
+use Rattle.cue_station.specs.Alarms.{either_by, is_within, not_shown, not_shown_by, old_by, other_by}
 use Rattle.cue_station.specs.Alarms.{other_store, silence_by, silent_in, stopped_by}
 use Rattle.cue_station.specs.Network.{is_stopped}
 use Rattle.cue_station.specs.Warning.{IsLoudestFirst, LoudestFirst, rank_of}
@@ -101,7 +101,7 @@ in_order f back failures network =
     (above_option 4 6 _ _ (lit≤ tt) (rank_old (is_within COPY_MS f.at f.read) f.trouble f.read)
     (above_map 6 alarm.ClockPutBack (λ x. refl) back _
     (above_more 6 7 _ (lit≤ tt)
-    (above_map 7 alarm.Failed (λ x. refl) (failed_by f failures) _
+    (above_map 7 alarm.Failed (λ x. refl) failures _
     (above_more 7 8 _ (lit≤ tt)
     (above_last 8 alarm.DeviceSilent (λ x. refl) (silent_in network)))))))))
     in all.first

@@ -17,13 +17,12 @@ use Rattle.cue_station.specs.declared.memory.Reading.{Reading}
 use Rattle.cue_station.specs.declared.memory.Word.{Word}
 use Rattle.cue_view.specs.declared.view.Became.{Became}
 use Rattle.cue_station.specs.Asking.{first_of, followed, going_by, if_open, is_final, is_open, is_read_after}
-use Rattle.cue_station.specs.Asking.{newest_of, only}
-use Rattle.cue_station.specs.Lighting.{is_number}
+use Rattle.cue_station.specs.Asking.{newest_of, only, second_of}
 use Rattle.cue_station.specs.Memory.{is_beside, is_cancel}
-use Rattle.cue_station.specs.Noting.{press_after}
+use Rattle.cue_station.specs.Noting.{before_after, press_after}
 use Rattle.cue_station.specs.Opening.{is_some_final}
 use Rattle.cue_station.specs.Reading.{read_with}
-use Rattle.cue_station.proofs.PressLemmas.{newest-map, two}
+use Rattle.cue_station.proofs.PressLemmas.{newest-map, second-map, two}
 
 -- ---- the copy grows younger
 
@@ -51,6 +50,7 @@ rises (heard.Replied n a) r = record { next = r; is = refl; later = omega arith 
 rises (heard.Nobody n) r = record { next = r; is = refl; later = omega arith }
 rises (heard.Pressed v b) r = record { next = r; is = refl; later = omega arith }
 rises (heard.Relay s) r = record { next = r; is = refl; later = omega arith }
+rises (heard.Kept k) r = record { next = r; is = refl; later = omega arith }
 rises heard.Tick r = record { next = r; is = refl; later = omega arith }
 
 -- ---- what is open was open
@@ -248,3 +248,9 @@ pub newest-sent : (sent : List Pending) (f : Pending → Pending) (press : Optio
     → press ≡ newest_of xs → press_after sent (option_map f press) ≡ newest_of (sent ++ map f xs)
 newest-sent [] f press xs e = newest-map f press xs e
 newest-sent (p ∷ ps) f press xs e = refl
+
+pub second-sent : (sent : List Pending) (f : Pending → Pending) (press before : Option Pending) (xs : List Pending)
+    → press ≡ newest_of xs → before ≡ second_of xs
+    → before_after sent (option_map f press) (option_map f before) ≡ second_of (sent ++ map f xs)
+second-sent [] f press before xs e k = second-map f before xs k
+second-sent (p ∷ ps) f press before xs e k = newest-sent ps f press xs e

@@ -1,5 +1,5 @@
 -- A second after a question the next one is due.
-use Rattle.std.proofs.Common.{◌≡◌, refl, ℕ, Bool, true, false, ◌+◌, ◌&&◌, ◌||◌, Option, None, Some, IsTrue, is_some, nat_le}
+use Rattle.std.proofs.Common.{◌≡◌, refl, ℕ, Bool, true, false, ◌+◌, ◌&&◌, Option, None, Some, IsTrue, is_some, nat_le}
 use Rattle.std.proofs.Common.{arith, nat_lt}
 use Rattle.std.proofs.lemmas.Bool.Decides.{nat_tests}
 use Rattle.cue_show.proofs.TestLemmas.{or_right}

@@ -5,7 +5,7 @@ use Rattle.std.proofs.Common.{Option, None, Some, is_none, filter, nat_eq}
 use Rattle.std.specs.List.{list_any, list_all}
 use Rattle.std.specs.Option.{option_map, option_to_list}
 use Rattle.cue_station.specs.declared.memory.Pending.{Pending}
-use Rattle.cue_station.specs.Asking.{is_final, newest_of, only}
+use Rattle.cue_station.specs.Asking.{is_final, newest_of, only, second_of}
 use Rattle.cue_station.specs.Opening.{has_ask, is_some_final}
 
 -- ---- tests over a filter
@@ -117,6 +117,11 @@ pub newest-map : (f : Pending → Pending) (press : Option Pending) (xs : List P
     → option_map f press ≡ newest_of (map f xs)
 newest-map f press [] e = ap (option_map f) e
 newest-map f press (x ∷ xs) e = ap (option_map f) e
+
+pub second-map : (f : Pending → Pending) (before : Option Pending) (xs : List Pending) → before ≡ second_of xs
+    → option_map f before ≡ second_of (map f xs)
+second-map f before [] e = ap (option_map f) e
+second-map f before (x ∷ xs) e = newest-map f before xs e
 
 -- ---- tests of the two
 

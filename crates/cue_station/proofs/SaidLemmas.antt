@@ -1,22 +1,25 @@
 -- A failure of a live attempt has its alarm at once.
-use Rattle.std.proofs.Common.{◌≡◌, refl, ap, ◌∙◌, sym, ℕ, Bool, true, false, not, ◌||◌, cond, List, [], ◌∷◌, ◌++◌, map}
-use Rattle.std.proofs.Common.{Option, Some, nat_eq}
-use Rattle.std.specs.List.{list_any}
+use Rattle.std.proofs.Common.{◌≡◌, refl, ap, ◌∙◌, sym, ℕ, Bool, true, false, not, ◌&&◌, ◌||◌, cond, List, [], ◌∷◌, ◌++◌}
+use Rattle.std.proofs.Common.{Some, filter, map, nat_eq, take}
+use Rattle.std.specs.List.{flat_map, list_any}
 use Rattle.std.specs.Option.{option_to_list}
+use Rattle.std.proofs.lemmas.List.Elements.{filter-append}
 use Rattle.std.proofs.lemmas.List.Folds.{list_any-append}
 use Rattle.cue_show.proofs.TestLemmas.{same_number}
-use Rattle.cue_view.specs.declared.view.Alarm.{Alarm}
 use Rattle.cue_view.specs.declared.view.Alarm.TheVariants as alarm
 use Rattle.cue_view.specs.declared.view.Contacted.{Contacted}
+use Rattle.cue_exchange.specs.declared.attempt.Attempt.{Attempt}
+use Rattle.cue_view.specs.declared.view.Told.{Told}
 use Rattle.cue_station.specs.declared.alarms.Facts.{Facts}
+use Rattle.cue_station.specs.declared.limits.TheConstants.{KEPT_FAILURES}
 use Rattle.cue_station.specs.declared.memory.Reading.{Reading}
 use Rattle.cue_station.specs.Turns.{Turn}
-use Rattle.cue_station.specs.Alarms.{alarms_by, beside, doubt, failed_by, failures_by, is_acknowledged, old_store}
-use Rattle.cue_station.specs.Alarms.{put_back_in, relay_stopped, silence, silent_in, unseen}
-use Rattle.cue_station.specs.Alarms.{acknowledged_of}
-use Rattle.cue_station.specs.Drawing.{facts_of, live_by}
-use Rattle.cue_station.specs.Faults.{failed_in, failing_in}
-use Rattle.cue_station.specs.Laws.{Keeps}
+use Rattle.cue_station.specs.Alarms.{acknowledged_of, alarms_by, doubt, is_acknowledged, old_store, put_back_in}
+use Rattle.cue_station.specs.Alarms.{relay_stopped, silence, silent_in}
+use Rattle.cue_station.specs.Drawing.{alarms_of, facts_of, failures_shown, live_by}
+use Rattle.cue_station.specs.Faults.{failing_in, is_failing}
+use Rattle.cue_station.specs.Keeping.{failed_after, failed_of, has_number, is_fresh, numbers_of, shown_failures, stays}
+use Rattle.cue_station.specs.Keeping.{told_ended, told_if_failing, told_live, told_now, with_kept}
 use Rattle.cue_station.specs.Network.{network_by, relayed_of}
 use Rattle.cue_station.specs.Reading.{reading_of, seen_since}
 use Rattle.cue_station.specs.Readings.{FailingIsSaid}
@@ -26,49 +29,76 @@ or_true : (b : Bool) → (b || true) ≡ true
 or_true true = refl
 or_true false = refl
 
-any_after : {A : Type 0} (p : A → Bool) (xs ys : List A) → list_any p ys ≡ true → list_any p (xs ++ ys) ≡ true
+pub any_after : {A : Type 0} (p : A → Bool) (xs ys : List A) → list_any p ys ≡ true → list_any p (xs ++ ys) ≡ true
 any_after p xs ys h = list_any-append p xs ys ∙ ap (λ v. list_any p xs || v) h ∙ or_true (list_any p xs)
 
-any_before : {A : Type 0} (p : A → Bool) (xs ys : List A) → list_any p xs ≡ true → list_any p (xs ++ ys) ≡ true
+pub any_before : {A : Type 0} (p : A → Bool) (xs ys : List A) → list_any p xs ≡ true → list_any p (xs ++ ys) ≡ true
 any_before p xs ys h = list_any-append p xs ys ∙ ap (λ v. v || list_any p ys) h
 
 -- ---- what nobody has seen is kept
 
-kept_else : (q p : ℕ) (more : List ℕ) → list_any (nat_eq q) more ≡ true → (t : Bool)
-    → list_any (nat_eq q) (cond t (p ∷ more) more) ≡ true
-kept_else q p more h true = ap (λ v. nat_eq q p || v) h ∙ or_true (nat_eq q p)
-kept_else q p more h false = h
+-- what keeps each with the number q keeps the first
+pub one_kept : (q : ℕ) (t : Told) (more : List Told) (keeps : Bool) → (nat_eq q t.seq ≡ true → keeps ≡ true) → (b : Bool)
+    → nat_eq q t.seq ≡ b → (b ≡ false → has_number q more ≡ true)
+    → has_number q (cond keeps (t ∷ more) more) ≡ true
+one_kept q t more keeps k true e rest =
+    ap (λ v. has_number q (cond v (t ∷ more) more)) (k e) ∙ ap (λ v. v || has_number q more) e
+one_kept q t more true k false e rest = ap (λ v. v || has_number q more) e ∙ rest refl
+one_kept q t more false k false e rest = rest refl
 
-kept_one : (seen : List ℕ) (q p : ℕ) (rest more : List ℕ) → is_acknowledged seen q ≡ false
-    → (nat_eq q p || list_any (nat_eq q) rest) ≡ true
-    → (list_any (nat_eq q) rest ≡ true → list_any (nat_eq q) more ≡ true) → (b : Bool) → nat_eq q p ≡ b
-    → list_any (nat_eq q) (cond (not (is_acknowledged seen p)) (p ∷ more) more) ≡ true
-kept_one seen q p rest more h k ih true e =
-    ap (λ n. list_any (nat_eq q) (cond (not (is_acknowledged seen n)) (p ∷ more) more)) (sym (same_number q p e))
-    ∙ ap (λ v. list_any (nat_eq q) (cond (not v) (p ∷ more) more)) h
-    ∙ ap (λ v. v || list_any (nat_eq q) more) e
-kept_one seen q p rest more h k ih false e =
-    kept_else q p more (ih (sym (ap (λ v. v || list_any (nat_eq q) rest) e) ∙ k)) (not (is_acknowledged seen p))
+fresh_live : (seen : List ℕ) (kept : List Told) (a : Attempt) (q : ℕ) → is_acknowledged seen q ≡ false
+    → nat_eq q a.seq ≡ true → is_fresh seen kept (told_live a) ≡ true
+unfolding is_fresh
+fresh_live seen kept a q h e =
+    ap (λ n. not (is_acknowledged seen n) && (true || not (has_number a.seq kept))) (sym (same_number q a.seq e))
+    ∙ ap (λ v. not v && (true || not (has_number a.seq kept))) h
 
-kept : (seen : List ℕ) (q : ℕ) → is_acknowledged seen q ≡ false → (qs : List ℕ) → list_any (nat_eq q) qs ≡ true
-    → list_any (nat_eq q) (unseen seen qs) ≡ true
-kept seen q h [] k = k
-kept seen q h (p ∷ qs) k =
-    kept_one seen q p qs (unseen seen qs) h k (kept seen q h qs) (nat_eq q p) refl
+live_one : (seen : List ℕ) (kept : List Told) (q : ℕ) → is_acknowledged seen q ≡ false → (a : Attempt)
+    (xs : List Attempt) (ys : List Told) → (list_any (nat_eq q) (map (λ (x : Attempt). x.seq) xs) ≡ true
+    → has_number q (filter (is_fresh seen kept) ys) ≡ true) → (b : Bool)
+    → list_any (nat_eq q) (map (λ (x : Attempt). x.seq) (cond b (a ∷ xs) xs)) ≡ true
+    → has_number q (filter (is_fresh seen kept) (cond b (told_live a ∷ []) [] ++ ys)) ≡ true
+live_one seen kept q h a xs ys more true k =
+    one_kept q (told_live a) (filter (is_fresh seen kept) ys) (is_fresh seen kept (told_live a))
+    (fresh_live seen kept a q h) (nat_eq q a.seq) refl
+    (λ e. more (sym (ap (λ v. v || list_any (nat_eq q) (map (λ (x : Attempt). x.seq) xs)) e) ∙ k))
+live_one seen kept q h a xs ys more false k = more k
+
+live_kept : (seen : List ℕ) (kept : List Told) (q : ℕ) → is_acknowledged seen q ≡ false → (live : List Attempt)
+    → list_any (nat_eq q) (failing_in live) ≡ true
+    → has_number q (filter (is_fresh seen kept) (flat_map told_if_failing live)) ≡ true
+live_kept seen kept q h [] k = k
+live_kept seen kept q h (a ∷ live) k =
+    live_one seen kept q h a (filter is_failing live) (flat_map told_if_failing live) (live_kept seen kept q h live)
+    (is_failing a) k
+
+-- a failure of a live attempt is kept
+now_kept : (seen : List ℕ) (r : Reading) (old : List Told) (q : ℕ) → is_acknowledged seen q ≡ false
+    → list_any (nat_eq q) (failing_in r.copy.state.live) ≡ true → has_number q (failed_after seen (Some r) old) ≡ true
+now_kept seen r old q h k =
+    let live = flat_map told_if_failing r.copy.state.live in
+    let fresh = filter (is_fresh seen old) (told_now r.copy) in
+    any_before (λ (t : Told). nat_eq q t.seq) fresh (take KEPT_FAILURES (filter (stays seen (Some r) fresh) old))
+    (ap (has_number q) (filter-append (is_fresh seen old) live (told_ended r.copy))
+    ∙ any_before (λ (t : Told). nat_eq q t.seq) (filter (is_fresh seen old) live)
+    (filter (is_fresh seen old) (told_ended r.copy)) (live_kept seen old q h r.copy.state.live k))
 
 -- ---- and has its alarm
+
+numbered : (q : ℕ) (all : List Told) → list_any (nat_eq q) (numbers_of all) ≡ has_number q all
+numbered q [] = refl
+numbered q (t ∷ all) = ap (λ v. nat_eq q t.seq || v) (numbered q all)
 
 called : (q : ℕ) (qs : List ℕ) → list_any (is_failure_of q) (map alarm.Failed qs) ≡ list_any (nat_eq q) qs
 called q [] = refl
 called q (p ∷ qs) = ap (λ v. nat_eq q p || v) (called q qs)
 
 failure_said : (f : Facts) (back failures : List ℕ) (network : List Contacted) (q : ℕ)
-    → list_any (nat_eq q) failures ≡ true → is_acknowledged f.acknowledged q ≡ false
-    → list_any (is_failure_of q) (alarms_by f back failures network) ≡ true
-failure_said f back failures network q there fresh =
+    → list_any (nat_eq q) failures ≡ true → list_any (is_failure_of q) (alarms_by f back failures network) ≡ true
+failure_said f back failures network q there =
     let p = is_failure_of q in
     let silent = map alarm.DeviceSilent (silent_in network) in
-    let failed = map alarm.Failed (failed_by f failures) in
+    let failed = map alarm.Failed failures in
     let clocks = map alarm.ClockPutBack back in
     let old = option_to_list (old_store f) in
     let stopped = option_to_list (relay_stopped f) in
@@ -78,19 +108,21 @@ failure_said f back failures network q there fresh =
     (any_after p stopped (old ++ (clocks ++ (failed ++ silent)))
     (any_after p old (clocks ++ (failed ++ silent))
     (any_after p clocks (failed ++ silent)
-    (any_before p failed silent
-    (called q (failed_by f failures)
-    ∙ kept f.acknowledged q fresh (beside f.failed failures ++ failures)
-    (any_after (nat_eq q) (beside f.failed failures) failures there)))))))
+    (any_before p failed silent (called q failures ∙ there))))))
+
+-- what is shown of what went wrong has its alarm
+pub shown_said : (turns : List Turn) (now wall q : ℕ) → has_number q (failures_shown turns) ≡ true
+    → list_any (is_failure_of q) (alarms_of turns now wall) ≡ true
+shown_said turns now wall q h =
+    failure_said (facts_of turns now) (put_back_in (λ n. seen_since n turns) now wall (live_by (reading_of turns)))
+    (numbers_of (failures_shown turns)) (network_by (relayed_of turns) now) q
+    (numbered q (failures_shown turns) ∙ h)
 
 pub failing_said : FailingIsSaid
 failing_said t past r q keeps read there fresh =
     let turns = t ∷ past in
-    let failures = failures_by (reading_of turns) in
+    let seen = acknowledged_of turns in
+    let old = with_kept t.input.heard (failed_of past) in
     ap (list_any (is_failure_of q)) keeps.alarm
-    ∙ failure_said (facts_of turns t.input.at)
-    (put_back_in (λ n. seen_since n turns) t.input.at t.input.wall (live_by (reading_of turns))) failures
-    (network_by (relayed_of turns) t.input.at) q
-    (ap (λ o. list_any (nat_eq q) (failures_by o)) read
-    ∙ any_before (nat_eq q) (failing_in r.copy.state.live) (failed_in r.copy) there)
-    fresh
+    ∙ shown_said turns t.input.at t.input.wall q
+    (ap (λ o. has_number q (shown_failures o (failed_after seen o old))) read ∙ now_kept seen r old q fresh there)

@@ -16,6 +16,7 @@ use Rattle.cue_station.specs.declared.memory.Shown.{Shown}
 use Rattle.cue_station.specs.declared.station.Made.{Made}
 use Rattle.cue_station.specs.declared.station.Station.{Station}
 use Rattle.cue_station.specs.declared.station.Step.{Step}
+use Rattle.cue_view.specs.declared.view.Told.{Told}
 use Rattle.cue_station.specs.Turns.{Turn}
 use Rattle.cue_station.specs.Alarms.{nobody_by}
 use Rattle.cue_station.specs.Choosing.{grown}
@@ -97,6 +98,7 @@ makes_heard s at wall (heard.Copied c) m k =
           ∙ ap (notes_sent (heard.Same c.begun) at (newer c s.reading) m.step.send)
           (sym (copy_hollow c at (newer c s.reading) s.views.items s.notes));
       seen = k.seen;
+      failed = k.failed;
       shown = k.shown;
       number = k.number;
       unsent = k.unsent;
@@ -109,6 +111,7 @@ makes_heard s at wall (heard.Same begun) m k =
       send = k.send;
       notes = k.notes;
       seen = k.seen;
+      failed = k.failed;
       shown = k.shown;
       number = k.number;
       unsent = k.unsent;
@@ -121,6 +124,7 @@ makes_heard s at wall (heard.Unread why) m k =
       send = k.send;
       notes = k.notes;
       seen = k.seen;
+      failed = k.failed;
       shown = k.shown;
       number = k.number;
       unsent = k.unsent;
@@ -133,6 +137,7 @@ makes_heard s at wall (heard.Replied n a) m k =
       send = k.send;
       notes = k.notes;
       seen = k.seen;
+      failed = k.failed;
       shown = k.shown;
       number = k.number;
       unsent = k.unsent;
@@ -145,6 +150,7 @@ makes_heard s at wall (heard.Nobody n) m k =
       send = k.send;
       notes = k.notes;
       seen = k.seen;
+      failed = k.failed;
       shown = k.shown;
       number = k.number;
       unsent = k.unsent;
@@ -157,6 +163,7 @@ makes_heard s at wall (heard.Pressed view b) m k =
       send = k.send;
       notes = k.notes;
       seen = k.seen;
+      failed = k.failed;
       shown = k.shown;
       number = k.number;
       unsent = k.unsent;
@@ -171,6 +178,20 @@ makes_heard s at wall (heard.Relay x) m k =
           ∙ ap (notes_sent (heard.Relay None) at s.reading m.step.send)
           (sym (relay_hollow x at s.reading s.views.items s.notes));
       seen = k.seen;
+      failed = k.failed;
+      shown = k.shown;
+      number = k.number;
+      unsent = k.unsent;
+      view = k.view;
+    }
+makes_heard s at wall (heard.Kept x) m k =
+    record {
+      due = k.due;
+      overdue = k.overdue;
+      send = k.send;
+      notes = k.notes;
+      seen = k.seen;
+      failed = k.failed;
       shown = k.shown;
       number = k.number;
       unsent = k.unsent;
@@ -183,6 +204,7 @@ makes_heard s at wall heard.Tick m k =
       send = k.send;
       notes = k.notes;
       seen = k.seen;
+      failed = k.failed;
       shown = k.shown;
       number = k.number;
       unsent = k.unsent;
@@ -192,13 +214,15 @@ makes_heard s at wall heard.Tick m k =
 -- what is kept, whichever way it is told
 pub kept_as : (turns : List Turn) (n p : Notes) → n ≡ p → (r o : Option Reading) → r ≡ o → (x y : Option Relayed)
     → x ≡ y
-    → (s t : List Seen) → s ≡ t → (v w : List Shown) → v ≡ w → IsKept turns n r x s v → IsKept turns p o y t w
-kept_as turns n p en r o er x y ex s t es v w ev k =
-    subst (λ a. IsKept turns a o y t w) en
-    (subst (λ a. IsKept turns n a y t w) er
-    (subst (λ a. IsKept turns n r a t w) ex
-    (subst (λ a. IsKept turns n r x a w) es
-    (subst (λ a. IsKept turns n r x s a) ev k))))
+    → (s t : List Seen) → s ≡ t → (l m : List Told) → l ≡ m → (v w : List Shown) → v ≡ w
+    → IsKept turns n r x s l v → IsKept turns p o y t m w
+kept_as turns n p en r o er x y ex s t es l m el v w ev k =
+    subst (λ a. IsKept turns a o y t m w) en
+    (subst (λ a. IsKept turns n a y t m w) er
+    (subst (λ a. IsKept turns n r a t m w) ex
+    (subst (λ a. IsKept turns n r x a m w) es
+    (subst (λ a. IsKept turns n r x s a w) el
+    (subst (λ a. IsKept turns n r x s l a) ev k)))))
 
 made_keeps : (old : Station) (i : Input) (r : Option Reading) (x : Option Relayed) (m : Made) (new : Station)
     (step : Step)
@@ -212,6 +236,7 @@ made_keeps old i r x m new step er ex makes keeps = λ past after.
           (reading_now old i) new.reading (sym er ∙ sym keeps.reading)
           (relayed_with i.heard i.at old.relay) new.relay (sym ex ∙ sym keeps.relay)
           m.seen.items new.seen.items (sym keeps.seen)
+          m.failed.items new.failed.items (sym keeps.failed)
           (kept_with m.shown old.views.items) new.views.items (sym keeps.views)
           (step-after past old i m after makes)),
     )

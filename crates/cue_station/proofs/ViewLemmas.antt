@@ -5,6 +5,7 @@ use Rattle.cue_station.specs.declared.memory.Notes.{Notes}
 use Rattle.cue_station.specs.declared.memory.Reading.{Reading}
 use Rattle.cue_station.specs.declared.memory.Relayed.{Relayed}
 use Rattle.cue_station.specs.declared.memory.Seen.{Seen}
+use Rattle.cue_view.specs.declared.view.Told.{Told}
 use Rattle.cue_view.specs.declared.view.Unsent.{Unsent}
 use Rattle.cue_view.specs.declared.view.View.{View}
 use Rattle.cue_station.specs.Drawing.{ShowsReading}
@@ -22,10 +23,10 @@ shows_numbered stands since given now wall v number unsent None k =
 shows_numbered stands since given now wall v number unsent (Some r) k =
     record { next = k.next; place = k.place; stack = k.stack; last = k.last; past = k.past; live = k.live }
 
-pub numbered : (n : Notes) (r : Option Reading) (relay : Option Relayed) (seen : List Seen) (f : Footing) (v : View)
-    (number : ℕ) (unsent : Option Unsent) → IsView n r relay seen f v
-    → IsView n r relay seen f (with_number number unsent v)
-numbered n r relay seen f v number unsent k =
+pub numbered : (n : Notes) (r : Option Reading) (relay : Option Relayed) (seen : List Seen) (kept : List Told)
+    (f : Footing) (v : View) (number : ℕ) (unsent : Option Unsent) → IsView n r relay seen kept f v
+    → IsView n r relay seen kept f (with_number number unsent v)
+numbered n r relay seen kept f v number unsent k =
     record {
       at = k.at;
       read = k.read;
@@ -33,8 +34,10 @@ numbered n r relay seen f v number unsent k =
       chosen = k.chosen;
       back = k.back;
       said = k.said;
+      before = k.before;
       copy = shows_numbered f.stands (since_in seen) (given_in seen) f.at f.wall v number unsent r k.copy;
       lit = k.lit;
+      failed = k.failed;
       network = k.network;
       alarms = k.alarms;
     }

@@ -1,5 +1,5 @@
 -- What is wrong, the loudest first.
-use Rattle.std.specs.Prelude.{◌+◌, ◌%◌, max, replicate, slice_set, ℕ, pos, Bool, true, false, not, ◌&&◌, if◌then◌else◌, List, [], ◌∷◌, ◌++◌}
+use Rattle.std.specs.Prelude.{◌+◌, ◌%◌, replicate, slice_set, ℕ, pos, Bool, true, false, not, ◌&&◌, if◌then◌else◌, List, [], ◌∷◌, ◌++◌}
 use Rattle.std.specs.Prelude.{map, filter, length, Option, None, Some, nat_eq, nat_le, nat_lt}
 use Rattle.std.specs.List.{list_any}
 use Rattle.std.specs.Option.{option_eq, option_map, option_to_list}
@@ -28,7 +28,6 @@ use Rattle.cue_station.specs.Turns.{Turn}
 use Rattle.cue_station.specs.Offering.{is_offered, kept_of}
 use Rattle.cue_station.specs.Reading.{reading_of, answered_of, question_of, ended_number, ended_outcome}
 use Rattle.cue_station.specs.Network.{is_stopped}
-use Rattle.cue_station.specs.Faults.{failures_in}
 
 -- ---- what stands
 
@@ -110,25 +109,6 @@ differs_since [] = None
 differs_since (t ∷ past) =
     lasting (differs_by t.input.at (answered_of (t ∷ past)) (reading_of (t ∷ past))) t.input.at (differs_since past)
 
--- the attempts of the newest copy in which something went wrong
-abbrev pub failures_by : Option Reading → List ℕ
-failures_by None = []
-failures_by (Some r) = failures_in r.copy
-
--- the later of two numbers
-abbrev pub later : ℕ → Option ℕ → Option ℕ
-later q None = Some q
-later q (Some p) = Some (max p q)
-
-abbrev pub newest : List ℕ → Option ℕ → Option ℕ
-newest [] old = old
-newest (q ∷ qs) old = newest qs (later q old)
-
--- the newest failure that a copy told of, though its events are gone
-abbrev pub failed_of : List Turn → Option ℕ
-failed_of [] = None
-failed_of (t ∷ past) = newest (failures_by (reading_of (t ∷ past))) (failed_of past)
-
 -- The attempts that were seen, each at a place of its own: of numbers that are 64 apart the one that was seen last. 0 is
 -- the number of none.
 abbrev pub nothing_seen : List ℕ
@@ -137,13 +117,19 @@ nothing_seen = replicate KEPT_SEEN 0
 abbrev pub with_seen : ℕ → List ℕ → List ℕ
 with_seen q old = slice_set old (q % KEPT_SEEN) q
 
--- a press that a young view offered says that q was seen
+-- with each of these, in order
+abbrev pub with_each : List ℕ → List ℕ → List ℕ
+with_each [] old = old
+with_each (q ∷ qs) old = with_each qs (with_seen q old)
+
+-- a press that a young view offered says that q was seen; and what was seen elsewhere was seen
 abbrev pub acknowledged_by : Heard → ℕ → List Shown → List ℕ → List ℕ
 acknowledged_by (heard.Pressed view (button.Seen q)) now views old =
     if is_offered view now (button.Seen q) views then with_seen q old else old
+acknowledged_by (heard.Kept k) now views old = with_each k.seen.items old
 acknowledged_by _ now views old = old
 
--- the attempts of which presses said that they were seen
+-- the attempts that were seen, here or elsewhere
 abbrev pub acknowledged_of : List Turn → List ℕ
 acknowledged_of [] = nothing_seen
 acknowledged_of (t ∷ past) = acknowledged_by t.input.heard t.input.at (kept_of past) (acknowledged_of past)
@@ -218,18 +204,6 @@ is_put_back since now wall a = is_over_by (since a.seq) now wall a
 abbrev pub put_back_in : (ℕ → Option ℕ) → ℕ → ℕ → List Attempt → List ℕ
 put_back_in since now wall live = map (λ a. a.seq) (filter (is_put_back since now wall) live)
 
--- the failures that nobody has said he saw
-abbrev pub unseen : List ℕ → List ℕ → List ℕ
-unseen acknowledged qs = filter (λ q. not (is_acknowledged acknowledged q)) qs
-
--- the newest failure, if the copy does not tell of it any more
-abbrev pub beside : Option ℕ → List ℕ → List ℕ
-beside None qs = []
-beside (Some q) qs = if list_any (nat_eq q) qs then [] else q ∷ []
-
-abbrev pub failed_by : Facts → List ℕ → List ℕ
-failed_by f qs = unseen f.acknowledged (beside f.failed qs ++ qs)
-
 -- the devices that the relay calls silent
 abbrev pub silent_in : List Contacted → List ℕ
 silent_in network = map (λ c. c.device) (filter (λ c. c.silent) network)
@@ -237,7 +211,7 @@ silent_in network = map (λ c. c.device) (filter (λ c. c.silent) network)
 -- ---- all of them
 
 abbrev pub alarms_by : Facts → List ℕ → List ℕ → List Contacted → List Alarm
-alarms_by f put_back failures network =
+alarms_by f put_back failed network =
     option_to_list (silence f) ++ (option_to_list (doubt f) ++ (option_to_list (relay_stopped f)
-    ++ (option_to_list (old_store f) ++ (map alarm.ClockPutBack put_back ++ (map alarm.Failed (failed_by f failures)
+    ++ (option_to_list (old_store f) ++ (map alarm.ClockPutBack put_back ++ (map alarm.Failed failed
     ++ map alarm.DeviceSilent (silent_in network))))))

@@ -173,6 +173,11 @@ abbrev pub newest_of : {A : Type 0} → List A → Option A
 newest_of [] = None
 newest_of (x ∷ xs) = Some x
 
+-- the one before it
+abbrev pub second_of : {A : Type 0} → List A → Option A
+second_of [] = None
+second_of (x ∷ xs) = newest_of xs
+
 -- ---- what is said of a press
 
 -- what came to its own socket; else what the first copy showed that settles it; else that it is open
@@ -265,6 +270,10 @@ said_by r p = record { ask = p.ask; button = p.button; became = became_now r p }
 -- what is said of the last press that was sent
 abbrev pub said_of : List Turn → Option Said
 said_of turns = option_map (said_by (reading_of turns)) (newest_of (presses_of turns))
+
+-- what is said of the press before it
+abbrev pub said_before : List Turn → Option Said
+said_before turns = option_map (said_by (reading_of turns)) (second_of (presses_of turns))
 
 -- ---- which presses are open
 

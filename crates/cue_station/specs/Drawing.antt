@@ -8,14 +8,15 @@ use Rattle.cue_station.specs.declared.memory.Reading.{Reading}
 use Rattle.cue_station.specs.declared.memory.Relayed.{Relayed}
 use Rattle.cue_view.specs.declared.view.Alarm.{Alarm}
 use Rattle.cue_view.specs.declared.view.Next.TheVariants as next
+use Rattle.cue_view.specs.declared.view.Told.{Told}
 use Rattle.cue_view.specs.declared.view.View.{View}
 use Rattle.cue_station.specs.Turns.{Turn}
 use Rattle.cue_station.specs.Reading.{reading_of, answered_of, seen_since}
-use Rattle.cue_station.specs.Alarms.{acknowledged_of, alarms_by, asked_at, differs_since, failed_of, failures_by}
-use Rattle.cue_station.specs.Alarms.{nobody_of}
+use Rattle.cue_station.specs.Alarms.{alarms_by, asked_at, differs_since, nobody_of}
 use Rattle.cue_station.specs.Alarms.{put_back_in, read_at, trouble_of}
 use Rattle.cue_station.specs.Asking.{unshown_of}
 use Rattle.cue_station.specs.Following.{next_in}
+use Rattle.cue_station.specs.Keeping.{failed_of, numbers_of, shown_failures}
 use Rattle.cue_station.specs.Network.{network_by, relayed_of}
 use Rattle.cue_station.specs.Showing.{shown_live, stack_of}
 use Rattle.cue_station.specs.Telling.{last_in, past_in}
@@ -60,13 +61,15 @@ facts_of turns now =
       stamped = option_map (λ (r : Relayed). r.since) (relayed_of turns);
       read = read_at (reading_of turns);
       trouble = trouble_of turns;
-      failed = failed_of turns;
-      acknowledged = acknowledged_of turns;
       unshown = unshown_of turns;
     }
+
+-- what went wrong, and nobody has said that he saw it; nothing before a copy was read
+abbrev pub failures_shown : List Turn → List Told
+failures_shown turns = shown_failures (reading_of turns) (failed_of turns)
 
 -- what is wrong at a moment by each of the two clocks, the loudest first
 abbrev pub alarms_of : List Turn → ℕ → ℕ → List Alarm
 alarms_of turns now wall =
     alarms_by (facts_of turns now) (put_back_in (λ q. seen_since q turns) now wall (live_by (reading_of turns)))
-    (failures_by (reading_of turns)) (network_by (relayed_of turns) now)
+    (numbers_of (failures_shown turns)) (network_by (relayed_of turns) now)

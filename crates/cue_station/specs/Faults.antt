@@ -1,8 +1,7 @@
 -- What went wrong in attempts: a device failed, or the standby was lost and nobody gave it up.
-use Rattle.std.specs.Prelude.{ℕ, Bool, true, false, not, ◌&&◌, if◌then◌else◌, List, ◌++◌, take, filter, map}
+use Rattle.std.specs.Prelude.{ℕ, Bool, true, false, not, ◌&&◌, if◌then◌else◌, List, take, filter, map}
 use Rattle.std.specs.Prelude.{Option, None, Some, nat_eq}
 use Rattle.std.specs.List.{list_any}
-use Rattle.std.specs.Option.{option_to_list}
 use Rattle.cue_exchange.specs.declared.attempt.Answer.{Answer}
 use Rattle.cue_exchange.specs.declared.attempt.Answer.TheVariants as answer
 use Rattle.cue_exchange.specs.declared.attempt.Attempt.{Attempt}
@@ -81,12 +80,3 @@ is_earlier_fault es last q = is_fault_in q es && not (is_number_of q last)
 abbrev pub failed_before : Copied → List ℕ
 failed_before c =
     filter (is_earlier_fault c.events.items (failed_last c.events.items c.state.ended)) (take MAX_TOLD (ended_in c))
-
--- the last one, though its start is not among the events any more, and those before
-abbrev pub failed_in : Copied → List ℕ
-failed_in c = option_to_list (failed_last c.events.items c.state.ended) ++ failed_before c
-
--- the attempts in which something went wrong, of those that the copy tells of: an attempt has the same number while it
--- is live and once it has ended
-abbrev pub failures_in : Copied → List ℕ
-failures_in c = failing_in c.state.live ++ failed_in c

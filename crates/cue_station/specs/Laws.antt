@@ -2,8 +2,8 @@
 --
 -- What it cannot say: what another operator does between the copy and the moment at which the controller judges a
 -- message; which attempt that is then, since `go` names a cue and no number; and which program holds the port. What it
--- does not say: that the status is asked sooner than after a second; and that an older failure that nobody has said he
--- saw keeps an alarm of its own once a snapshot has swallowed its events: the newest failure has one always.
+-- does not say: that the status is asked sooner than after a second; and that more than 64 failures are kept that the
+-- newest copy no longer tells of: those that were told first go first.
 use Rattle.std.specs.Prelude.{◌≡◌, ℕ, Bool, true, false, List, [], ◌∷◌, Some, IsSome, IsTrue, ◌⊎◌, length}
 use Rattle.std.specs.List.{list_any}
 use Rattle.cue_desk.specs.declared.orders.DeskCommand.TheVariants as order
@@ -14,9 +14,9 @@ use Rattle.cue_station.specs.declared.heard.Send.{Send}
 use Rattle.cue_station.specs.Turns.{Turn}
 use Rattle.cue_station.specs.Reading.{reading_of, answered_of, question_of, seen_since}
 use Rattle.cue_station.specs.Alarms.{asked_at, read_at, stands_by}
-use Rattle.cue_station.specs.Asking.{is_press_sent, said_of}
+use Rattle.cue_station.specs.Asking.{is_press_sent, said_before, said_of}
 use Rattle.cue_station.specs.Choosing.{chosen_of, chosen_number}
-use Rattle.cue_station.specs.Drawing.{ShowsReading, alarms_of}
+use Rattle.cue_station.specs.Drawing.{ShowsReading, alarms_of, failures_shown}
 use Rattle.cue_station.specs.Lighting.{may}
 use Rattle.cue_station.specs.Network.{network_by, relayed_of}
 use Rattle.cue_station.specs.Moving.{back_by, moved_of, place_by}
@@ -79,6 +79,10 @@ CopyIsSo t past =
     (λ q. seen_since q (t ∷ past)) (λ q. given_since q (t ∷ past)) t.input.at t.input.wall t.view
     (reading_of (t ∷ past))
 
+-- SO IS THAT OF THE PRESS BEFORE IT: the end of an open GO is told also if CANCEL was pressed after it.
+abbrev pub BeforeIsSo : Turn → List Turn → Type 0
+BeforeIsSo t past = t.view.before ≡ said_before (t ∷ past)
+
 -- AFTER GO NOTHING IS CHOSEN, until a press chooses.
 abbrev pub NoHop : Turn → List Turn → Type 0
 NoHop t past = t.view.chosen ≡ chosen_number (chosen_of (t ∷ past))
@@ -90,6 +94,10 @@ BackIsSo t past = t.view.back ≡ back_by (moved_of (t ∷ past)) (place_by (rea
 -- WHAT IS WRONG IS SAID, the loudest first, and nothing else is.
 abbrev pub AlarmIsSo : Turn → List Turn → Type 0
 AlarmIsSo t past = t.view.alarms.items ≡ alarms_of (t ∷ past) t.input.at t.input.wall
+
+-- A FAILURE STAYS UNTIL SOMEBODY SAYS THAT IT WAS SEEN, as a copy told of it that knew its cue; each has its alarm.
+abbrev pub FailureStays : Turn → List Turn → Type 0
+FailureStays t past = t.view.failed.items ≡ failures_shown (t ∷ past)
 
 -- THE NETWORK IS WHAT THE RELAY SAYS, and nothing if it has stopped.
 abbrev pub NetworkIsSo : Turn → List Turn → Type 0
@@ -105,11 +113,13 @@ pub record Keeps (t : Turn) (past : List Turn) : Type 0 where
   pub press : PressIsSo t past
   pub asked : StatusIsAsked t past
   pub answer : AnswerIsSo t past
+  pub before : BeforeIsSo t past
   pub age : AgeIsSo t past
   pub copy : CopyIsSo t past
   pub chosen : NoHop t past
   pub back : BackIsSo t past
   pub alarm : AlarmIsSo t past
+  pub failed : FailureStays t past
   pub network : NetworkIsSo t past
   pub newest : IsNewest t past
 

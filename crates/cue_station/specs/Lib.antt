@@ -9,6 +9,7 @@ pub mod Showing
 pub mod Network
 pub mod Seeing
 pub mod Alarms
+pub mod Keeping
 pub mod Drawing
 pub mod Asking
 pub mod Opening

@@ -36,4 +36,5 @@ hollow (heard.Replied n r) = heard.Replied n r
 hollow (heard.Nobody n) = heard.Nobody n
 hollow (heard.Pressed view b) = heard.Pressed view b
 hollow (heard.Relay s) = heard.Relay None
+hollow (heard.Kept k) = heard.Kept k
 hollow heard.Tick = heard.Tick

@@ -1,5 +1,5 @@
 -- What the machine keeps is what the evening says.
-use Rattle.std.specs.Prelude.{◌≡◌, ℕ, Bool, true, false, if◌then◌else◌, List, ◌∷◌, ◌++◌, Option, None, Some, length}
+use Rattle.std.specs.Prelude.{◌≡◌, ℕ, Bool, true, false, List, ◌∷◌, ◌++◌, Option, None, Some, length}
 use Rattle.std.specs.Prelude.{filter}
 use Rattle.std.specs.Option.{option_map_or, option_to_list}
 use Rattle.cue_view.specs.declared.button.Button.{Button}
@@ -13,10 +13,12 @@ use Rattle.cue_station.specs.declared.memory.Seen.{Seen}
 use Rattle.cue_station.specs.declared.memory.Shown.{Shown}
 use Rattle.cue_station.specs.declared.station.Station.{Station}
 use Rattle.cue_station.specs.declared.station.Step.{Step}
+use Rattle.cue_view.specs.declared.view.Told.{Told}
 use Rattle.cue_station.specs.Turns.{Turn}
-use Rattle.cue_station.specs.Alarms.{acknowledged_of, differs_since, failed_of, nobody_of, trouble_of}
-use Rattle.cue_station.specs.Asking.{if_open, is_open, newest_of, presses_of}
+use Rattle.cue_station.specs.Alarms.{acknowledged_of, differs_since, nobody_of, trouble_of}
+use Rattle.cue_station.specs.Asking.{if_open, is_open, newest_of, presses_of, second_of}
 use Rattle.cue_station.specs.Choosing.{chosen_of}
+use Rattle.cue_station.specs.Keeping.{failed_of}
 use Rattle.cue_station.specs.Laws.{Keeps}
 use Rattle.cue_station.specs.Network.{relayed_of}
 use Rattle.cue_station.specs.Moving.{moved_of}
@@ -39,9 +41,10 @@ abbrev pub is_beside : Option Pending → Option Pending → Bool
 is_beside press None = true
 is_beside press (Some p) = option_map_or (λ (n : Pending). is_cancel n.button) press false
 
--- What is kept after an evening: the notes, the copy of the store, the relay, the attempts that are seen, the views.
+-- What is kept after an evening: the notes, the copy of the store, the relay, the attempts that are seen, what went
+-- wrong, the views.
 pub record IsKept (turns : List Turn) (n : Notes) (copied : Option Reading) (relayed : Option Relayed)
-    (attempts : List Seen) (newest : List Shown) : Type 0 where
+    (attempts : List Seen) (failures : List Told) (newest : List Shown) : Type 0 where
   pub number : n.number ≡ length turns
   pub asks : n.next_ask ≡ asks_of turns
   pub reading : copied ≡ reading_of turns
@@ -50,7 +53,7 @@ pub record IsKept (turns : List Turn) (n : Notes) (copied : Option Reading) (rel
   pub nobody : n.nobody ≡ nobody_of turns
   pub trouble : n.trouble ≡ trouble_of turns
   pub differs : n.differs ≡ differs_since turns
-  pub failed : n.failed ≡ failed_of turns
+  pub failed : failures ≡ failed_of turns
   pub acknowledged : n.acknowledged ≡ acknowledged_of turns
   pub relay : relayed ≡ relayed_of turns
   pub since : (q : ℕ) → since_in attempts q ≡ seen_since q turns
@@ -59,12 +62,13 @@ pub record IsKept (turns : List Turn) (n : Notes) (copied : Option Reading) (rel
   pub moved : n.moved ≡ moved_of turns
   pub views : newest ≡ kept_of turns
   pub press : n.press ≡ newest_of (presses_of turns)
+  pub before : n.before ≡ second_of (presses_of turns)
   pub opened : open_in (reading_of turns) n.press n.beside ≡ filter (is_open (reading_of turns)) (presses_of turns)
   pub beside : is_beside n.press n.beside ≡ true
 
 -- The machine after an evening.
 abbrev pub IsAfter : List Turn → Station → Type 0
-IsAfter turns s = IsKept turns s.notes s.reading s.relay s.seen.items s.views.items
+IsAfter turns s = IsKept turns s.notes s.reading s.relay s.seen.items s.failed.items s.views.items
 
 -- the turn that a step makes
 abbrev pub turn_of : Input → Step → Turn

@@ -15,7 +15,7 @@ use Rattle.cue_station.specs.declared.memory.Pending.{Pending}
 use Rattle.cue_station.specs.declared.memory.Question.{Question}
 use Rattle.cue_station.specs.declared.memory.Reading.{Reading}
 use Rattle.cue_station.specs.declared.memory.Shown.{Shown}
-use Rattle.cue_station.specs.Alarms.{acknowledged_by, differs_by, failures_by, lasting, newest, nobody_by, stands_by}
+use Rattle.cue_station.specs.Alarms.{acknowledged_by, differs_by, lasting, nobody_by, stands_by}
 use Rattle.cue_station.specs.Alarms.{trouble_with}
 use Rattle.cue_station.specs.Asking.{first_of, followed, going_by, if_open, sent_press}
 use Rattle.cue_station.specs.Choosing.{chosen_by_press, chosen_by_sending, chosen_number, grown}
@@ -42,18 +42,18 @@ with_presses h at r n =
     record n {
       press = option_map (followed h at n.answered r) n.press;
       beside = if_open r (option_map (followed h at n.answered r) n.beside);
+      before = option_map (followed h at n.answered r) n.before;
     }
 
 -- the press with the ask k is open, of those that are kept
 abbrev pub waits_by : Option Reading → Notes → ℕ → Bool
 waits_by r n k = has_ask k (if_open r n.press) || has_ask k n.beside
 
--- the choice, and the failures that were told and seen
+-- the choice, and the failures that were seen
 abbrev pub with_choice : Heard → ℕ → Option Reading → List Shown → Notes → Notes
 with_choice h at r views n =
     record n {
       choice = chosen_by_press h at views (grown h (waits_by r n) r n.choice);
-      failed = newest (failures_by r) n.failed;
       acknowledged = acknowledged_by h at views n.acknowledged;
     }
 
@@ -94,13 +94,23 @@ abbrev pub press_after : List Pending → Option Pending → Option Pending
 press_after [] press = press
 press_after (p ∷ ps) press = Some p
 
--- and the one before it is beside it, if that is open
+-- and the one that was the newest is before it
+abbrev pub before_after : List Pending → Option Pending → Option Pending → Option Pending
+before_after [] press before = before
+before_after (p ∷ ps) press before = press_after ps press
+
+-- and beside it, if that is open
 abbrev pub beside_after : Option Reading → List Pending → Option Pending → Option Pending → Option Pending
 beside_after r [] press beside = beside
 beside_after r (p ∷ ps) press beside = first_of (if_open r press) beside
 
 abbrev pub with_press : Option Reading → List Pending → Notes → Notes
-with_press r ps n = record n { press = press_after ps n.press; beside = beside_after r ps n.press n.beside }
+with_press r ps n =
+    record n {
+      press = press_after ps n.press;
+      beside = beside_after r ps n.press n.beside;
+      before = before_after ps n.press n.before;
+    }
 
 -- the notes, with the numbers of the next view and of the next ask
 abbrev pub notes_sent : Heard → ℕ → Option Reading → Option Send → Notes → Notes
@@ -113,4 +123,5 @@ notes_sent h at r send n =
       moved = moved_by send (place_by r) n.moved;
       press = press_after (sent_press h at r send) n.press;
       beside = beside_after r (sent_press h at r send) n.press n.beside;
+      before = before_after (sent_press h at r send) n.press n.before;
     }

@@ -1,5 +1,6 @@
 -- What the law comes to, in single facts.
-use Rattle.std.specs.Prelude.{◌≡◌, ◌+◌, ◌<◌, ℕ, true, false, List, ◌∷◌, Option, None, Some, IsTrue, nat_eq}
+use Rattle.std.specs.Prelude.{◌≡◌, ◌+◌, ◌<◌, ◌≤◌, ℕ, true, false, List, ◌∷◌, length, Option, None, Some, IsTrue, nat_eq}
+use Rattle.std.specs.Prelude.{nat_le}
 use Rattle.std.specs.List.{list_any}
 use Rattle.cue_core.specs.declared.limits.TheConstants.{STANDBY_MS}
 use Rattle.cue_exchange.specs.Live.{attempt_of}
@@ -7,11 +8,13 @@ use Rattle.cue_exchange.specs.declared.attempt.Attempt.{Attempt}
 use Rattle.cue_view.specs.declared.button.Button.TheVariants as button
 use Rattle.cue_station.specs.declared.heard.Copied.{Copied}
 use Rattle.cue_view.specs.declared.view.Next.TheVariants as next
+use Rattle.cue_station.specs.declared.limits.TheConstants.{KEPT_FAILURES}
 use Rattle.cue_station.specs.declared.memory.Reading.{Reading}
 use Rattle.cue_station.specs.Turns.{Turn}
 use Rattle.cue_station.specs.Alarms.{acknowledged_of, is_acknowledged}
 use Rattle.cue_station.specs.Faults.{failing_in}
 use Rattle.cue_station.specs.Following.{next_in, has_given, tells_all}
+use Rattle.cue_station.specs.Keeping.{failed_of, knows}
 use Rattle.cue_station.specs.Laws.{Keeps}
 use Rattle.cue_station.specs.Offering.{is_lit}
 use Rattle.cue_station.specs.Reading.{reading_of, seen_since}
@@ -53,3 +56,12 @@ FailingIsSaid =
     → list_any (nat_eq q) (failing_in r.copy.state.live) ≡ true
     → is_acknowledged (acknowledged_of (t ∷ past)) q ≡ false
     → list_any (is_failure_of q) t.view.alarms.items ≡ true
+
+-- What is kept of a failure with its cue is shown with it, and has its alarm, until somebody says that it was seen: as
+-- long as no more than 64 are kept, and its number is one of the store's.
+abbrev pub FailureIsKept : Type 0
+FailureIsKept =
+    (t : Turn) (past : List Turn) (r : Reading) (q : ℕ) → Keeps t past → reading_of (t ∷ past) ≡ Some r
+    → list_any (knows q) (failed_of past) ≡ true → length (failed_of past) ≤ KEPT_FAILURES
+    → IsTrue (nat_le q r.copy.state.last_seq) → is_acknowledged (acknowledged_of (t ∷ past)) q ≡ false
+    → (list_any (knows q) t.view.failed.items ≡ true) × (list_any (is_failure_of q) t.view.alarms.items ≡ true)

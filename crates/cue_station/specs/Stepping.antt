@@ -14,10 +14,12 @@ use Rattle.cue_station.specs.declared.station.Made.{Made}
 use Rattle.cue_station.specs.declared.station.Noted.{Noted}
 use Rattle.cue_station.specs.declared.station.Station.{Station}
 use Rattle.cue_station.specs.declared.station.Step.{Step}
+use Rattle.cue_view.specs.declared.view.Told.{Told}
 use Rattle.cue_view.specs.declared.view.Unsent.{Unsent}
 use Rattle.cue_view.specs.declared.view.View.{View}
 use Rattle.cue_station.specs.Alarms.{nothing_seen}
 use Rattle.cue_station.specs.Asking.{is_tap}
+use Rattle.cue_station.specs.Keeping.{failed_after, with_kept}
 use Rattle.cue_station.specs.Lighting.{may_by}
 use Rattle.cue_station.specs.Network.{relayed_with}
 use Rattle.cue_station.specs.Noting.{footing_by, notes_heard, notes_sent, order_by, send_by}
@@ -43,7 +45,7 @@ first_notes =
       question = None;
       press = None;
       beside = None;
-      failed = None;
+      before = None;
       acknowledged = nothing_seen;
       moved = None;
     }
@@ -63,6 +65,7 @@ pub record IsSame (old new : Station) : Type 0 where
   pub reading : new.reading ≡ old.reading
   pub relay : new.relay ≡ old.relay
   pub seen : new.seen.items ≡ old.seen.items
+  pub failed : new.failed.items ≡ old.failed.items
   pub views : new.views.items ≡ old.views.items
 
 -- a press of the button of the view is heeded
@@ -97,6 +100,10 @@ reading_now s i = read_with i.heard s.reading
 abbrev pub noted_now : Station → Input → Notes
 noted_now s i = notes_heard i.heard i.at (reading_now s i) s.views.items s.notes
 
+-- what is kept of what went wrong, with what is noted then
+abbrev pub failed_now : Station → Input → Notes → List Told
+failed_now s i n = failed_after n.acknowledged (reading_now s i) (with_kept i.heard s.failed.items)
+
 -- what a step makes before anything is kept
 pub record Makes (s : Station) (i : Input) (m : Made) : Type 0 where
   pub due : Bool
@@ -104,17 +111,22 @@ pub record Makes (s : Station) (i : Input) (m : Made) : Type 0 where
   pub send : m.step.send ≡ send_by (order_by i.heard (is_heeded_by s i)) due (noted_now s i).next_ask
   pub notes : m.notes ≡ notes_sent i.heard i.at (reading_now s i) m.step.send (noted_now s i)
   pub seen : m.seen.items ≡ seen_after s.seen.items i.at (reading_now s i)
+  pub failed : m.failed.items ≡ failed_now s i m.notes
   pub shown : m.shown ≡ shown_in m.step.view
   pub number : m.step.view.number ≡ s.notes.number
   pub unsent : m.step.view.unsent ≡ unsent_now s i
   pub view : IsView m.notes (reading_now s i) (relayed_with i.heard i.at s.relay) m.seen.items
-      (footing_by m.notes (reading_now s i) i.at i.wall) m.step.view
+      m.failed.items (footing_by m.notes (reading_now s i) i.at i.wall) m.step.view
 
 -- ---- once the store and the relay were taken in
 
 -- what is noted before anything is sent
 abbrev pub noted_in : Station → Input → Notes
 noted_in s i = notes_heard i.heard i.at s.reading s.views.items s.notes
+
+-- what is kept of what went wrong, with what is noted then
+abbrev pub failed_in : Station → Input → Notes → List Told
+failed_in s i n = failed_after n.acknowledged s.reading (with_kept i.heard s.failed.items)
 
 -- what is noted, and what is sent
 pub record TakesNotes (s : Station) (i : Input) (n : Noted) : Type 0 where
@@ -131,10 +143,12 @@ pub record MakesIn (s : Station) (i : Input) (m : Made) : Type 0 where
   pub send : m.step.send ≡ send_by (order_by i.heard (is_heeded_by s i)) due (noted_in s i).next_ask
   pub notes : m.notes ≡ notes_sent i.heard i.at s.reading m.step.send (noted_in s i)
   pub seen : m.seen.items ≡ seen_after s.seen.items i.at s.reading
+  pub failed : m.failed.items ≡ failed_in s i m.notes
   pub shown : m.shown ≡ shown_in m.step.view
   pub number : m.step.view.number ≡ s.notes.number
   pub unsent : m.step.view.unsent ≡ unsent_now s i
-  pub view : IsView m.notes s.reading s.relay m.seen.items (footing_by m.notes s.reading i.at i.wall) m.step.view
+  pub view : IsView m.notes s.reading s.relay m.seen.items m.failed.items
+      (footing_by m.notes s.reading i.at i.wall) m.step.view
 
 -- what was made is kept
 pub record KeepsMade (old : Station) (m : Made) (new : Station) (step : Step) : Type 0 where
@@ -143,6 +157,7 @@ pub record KeepsMade (old : Station) (m : Made) (new : Station) (step : Step) : 
   pub reading : new.reading ≡ old.reading
   pub relay : new.relay ≡ old.relay
   pub seen : new.seen.items ≡ m.seen.items
+  pub failed : new.failed.items ≡ m.failed.items
   pub views : new.views.items ≡ kept_with m.shown old.views.items
 
 pub record StepsIn (old : Station) (i : Input) (new : Station) (step : Step) : Type 0 where

@@ -11,14 +11,16 @@ use Rattle.cue_station.specs.declared.memory.Relayed.{Relayed}
 use Rattle.cue_station.specs.declared.memory.Seen.{Seen}
 use Rattle.cue_view.specs.declared.view.Alarm.{Alarm}
 use Rattle.cue_view.specs.declared.view.Next.TheVariants as next
+use Rattle.cue_view.specs.declared.view.Told.{Told}
 use Rattle.cue_view.specs.declared.view.View.{View}
 use Rattle.cue_station.specs.declared.viewing.Drawn.{Drawn}
-use Rattle.cue_station.specs.Alarms.{alarms_by, asked_at, failures_by, put_back_in, read_at}
+use Rattle.cue_station.specs.Alarms.{alarms_by, asked_at, put_back_in, read_at}
 use Rattle.cue_station.specs.Asking.{said_by, unshown_by}
 use Rattle.cue_station.specs.Drawing.{ShowsReading, live_by}
 use Rattle.cue_station.specs.Following.{next_in}
 use Rattle.cue_station.specs.Moving.{back_by, place_by}
 use Rattle.cue_station.specs.Lighting.{keys_of, may_in}
+use Rattle.cue_station.specs.Keeping.{numbers_of, shown_failures}
 use Rattle.cue_station.specs.Network.{network_by}
 use Rattle.cue_station.specs.Smaller.{smaller_of}
 use Rattle.cue_station.specs.Showing.{given_in, shown_live, since_in, stack_of}
@@ -40,16 +42,14 @@ facts_by n r relay now =
       stamped = stamped_at relay;
       read = read_at r;
       trouble = n.trouble;
-      failed = n.failed;
-      acknowledged = n.acknowledged;
       unshown = unshown_by n.press;
     }
 
 -- what is wrong
-abbrev pub alarms_in : Notes → Option Reading → Option Relayed → List Seen → List ℕ → Footing → List Alarm
-alarms_in n r relay seen failures f =
-    alarms_by (facts_by n r relay f.at) (put_back_in (since_in seen) f.at f.wall (live_by r)) failures
-    (network_by relay f.at)
+abbrev pub alarms_in : Notes → Option Reading → Option Relayed → List Seen → List Told → Footing → List Alarm
+alarms_in n r relay seen kept f =
+    alarms_by (facts_by n r relay f.at) (put_back_in (since_in seen) f.at f.wall (live_by r))
+    (numbers_of (shown_failures r kept)) (network_by relay f.at)
 
 -- ---- what is shown of a copy
 
@@ -89,16 +89,18 @@ LightsBy f seen (Some r) cues alarms lit =
 
 -- ---- the view
 
--- The view of these notes, of the newest copy, of the relay and of the attempts that are seen.
-pub record IsView (n : Notes) (r : Option Reading) (relay : Option Relayed) (seen : List Seen) (f : Footing) (v : View)
-    : Type 0 where
+-- The view of these notes, of the newest copy, of the relay, of the attempts that are seen and of what went wrong.
+pub record IsView (n : Notes) (r : Option Reading) (relay : Option Relayed) (seen : List Seen) (kept : List Told)
+    (f : Footing) (v : View) : Type 0 where
   pub at : v.at ≡ f.at
   pub read : v.read ≡ read_at r
   pub served : v.served ≡ asked_at n.answered
   pub chosen : v.chosen ≡ f.chosen
   pub back : v.back ≡ back_by n.moved (place_by r)
   pub said : v.said ≡ option_map (said_by r) n.press
+  pub before : v.before ≡ option_map (said_by r) n.before
   pub copy : ShowsReading f.stands (since_in seen) (given_in seen) f.at f.wall v r
   pub lit : LightsBy f seen r v.stack.items v.alarms.items v.lit.items
+  pub failed : v.failed.items ≡ shown_failures r kept
   pub network : v.network.items ≡ network_by relay f.at
-  pub alarms : v.alarms.items ≡ alarms_in n r relay seen (failures_by r) f
+  pub alarms : v.alarms.items ≡ alarms_in n r relay seen kept f

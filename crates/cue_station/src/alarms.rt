@@ -1,15 +1,13 @@
 //! What is wrong, the loudest first.
-ghost use Rattle.std.specs.Prelude.{◌≡◌, ◌++◌, IfOk, OnOk, map, nat_eq};
-ghost use Rattle.std.specs.List.{list_any};
+ghost use Rattle.std.specs.Prelude.{◌≡◌, ◌++◌, IfOk, OnOk, map};
 ghost use Rattle.std.specs.Option.{option_to_list};
 ghost use Rattle.cue_station.specs.Alarms as alarms;
 ghost use Rattle.cue_station.specs.Showing.{since_in};
 ghost use Rattle.cue_view.specs.declared.view.Alarm.TheVariants as alarm;
 
-use crate::faults::one_or_none;
 use crate::heard::Copied;
 use crate::limits::{COPY_MS, OTHER_MS, SHOWN_MS, STATUS_MS};
-use crate::memory::{Acknowledged, Seen};
+use crate::memory::Seen;
 use crate::network::is_stopped;
 use crate::showing::since_in;
 use cue_core::limits::STANDBY_MS;
@@ -34,10 +32,6 @@ pub struct Facts {
     pub read: Option<u64>,
     /// Why the store could not be read when it was looked at last.
     pub trouble: Option<Trouble>,
-    /// The newest failure that a copy told of.
-    pub failed: Option<u32>,
-    /// The attempts of which presses said that they were seen.
-    pub acknowledged: Acknowledged,
     /// Since when the last press is said to be carried out, and no copy has shown it.
     pub unshown: Option<u64>,
 }
@@ -167,57 +161,6 @@ pub fn put_back_in(
         .collect(alloc)
 }
 
-// Whether a press said that this failure was seen.
-fn is_acknowledged(acknowledged: &[u32], seq: u32) -> bool
-    ensures { result ≡ alarms.is_acknowledged acknowledged.now seq }
-{
-    is_among(seq, acknowledged)
-}
-
-// The failures that nobody has said he saw.
-fn unseen(alloc: Global, acknowledged: &[u32], numbers: &[u32]) -> Result<Vec<u32>, AllocError>
-    ensures { IfOk result (λ rest. rest.items ≡ alarms.unseen acknowledged.now numbers.now) }
-{
-    numbers
-        .iter()
-        .copied()
-        .filter(|seq| !is_acknowledged(acknowledged, *seq))
-        .collect(alloc)
-}
-
-// Whether the number is one of them.
-fn is_among(seq: u32, numbers: &[u32]) -> bool
-    ensures { result ≡ list_any (nat_eq seq) numbers.now }
-{
-    numbers.iter().any(|other| seq == *other)
-}
-
-// The newest failure, if the copy does not tell of it any more.
-fn beside(failed: Option<u32>, failures: &[u32]) -> Option<u32>
-    ensures { option_to_list result ≡ alarms.beside failed failures.now }
-{
-    match failed {
-        Some(seq) => {
-            if is_among(seq, failures) {
-                None
-            } else {
-                Some(seq)
-            }
-        }
-        None => None,
-    }
-}
-
-// The failures of which there is an alarm.
-fn failed_by(alloc: Global, facts: Facts, failures: &[u32]) -> Result<Vec<u32>, AllocError>
-    ensures { IfOk result (λ numbers. numbers.items ≡ alarms.failed_by facts failures.now) }
-{
-    let mut all = one_or_none(alloc, beside(facts.failed, failures))?;
-    all.extend_from_slice(failures)?;
-    let numbers = unseen(alloc, &facts.acknowledged, &all)?;
-    Ok(numbers)
-}
-
 // The devices that the relay calls silent.
 fn silent_in(alloc: Global, network: &[Contacted]) -> Result<Vec<DeviceNo>, AllocError>
     ensures { IfOk result (λ devices. devices.items ≡ alarms.silent_in network.now) }
@@ -272,18 +215,17 @@ fn push_silent(all: &mut Vec<Alarm>, devices: &[DeviceNo]) -> Result<(), AllocEr
     Ok(())
 }
 
-/// What is wrong, the loudest first. `put_back`: the attempts of `put_back_in`; `failures`: those of `failures_of`;
+/// What is wrong, the loudest first. `put_back`: the attempts of `put_back_in`; `failed`: the failures that are shown;
 /// `network`: what the relay says of its devices.
 pub fn alarms_of(
     alloc: Global,
     facts: Facts,
     put_back: &[u32],
-    failures: &[u32],
+    failed: &[u32],
     network: &[Contacted],
 ) -> Result<Vec<Alarm>, AllocError>
-    ensures { IfOk result (λ all. all.items ≡ alarms.alarms_by facts put_back.now failures.now network.now) }
+    ensures { IfOk result (λ all. all.items ≡ alarms.alarms_by facts put_back.now failed.now network.now) }
 {
-    let failed = failed_by(alloc, facts, failures)?;
     let silent = silent_in(alloc, network)?;
     let mut all = Vec::new(alloc);
     push_one(&mut all, silence(facts))?;
@@ -291,7 +233,7 @@ pub fn alarms_of(
     push_one(&mut all, relay_stopped(facts))?;
     push_one(&mut all, old_store(facts))?;
     push_put_back(&mut all, put_back)?;
-    push_failed(&mut all, &failed)?;
+    push_failed(&mut all, failed)?;
     push_silent(&mut all, &silent)?;
     Ok(all)
 }

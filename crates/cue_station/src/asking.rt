@@ -76,7 +76,7 @@ fn word_to(ask: u64, heard: &Heard) -> Option<Became>
             None
         },
         Heard::Copied(_) | Heard::Same(_) | Heard::Unread(_) => None,
-        Heard::Pressed(_, _) | Heard::Relay(_) | Heard::Tick => None,
+        Heard::Pressed(_, _) | Heard::Relay(_) | Heard::Kept(_) | Heard::Tick => None,
     }
 }
 

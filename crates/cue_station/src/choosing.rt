@@ -34,7 +34,7 @@ fn is_refused(ask: u64, heard: &Heard) -> bool
         Heard::Replied(to, replied) => *to == ask && is_refusal(*replied),
         Heard::Nobody(to) => *to == ask,
         Heard::Copied(_) | Heard::Same(_) | Heard::Unread(_) => false,
-        Heard::Pressed(_, _) | Heard::Relay(_) | Heard::Tick => false,
+        Heard::Pressed(_, _) | Heard::Relay(_) | Heard::Kept(_) | Heard::Tick => false,
     }
 }
 
@@ -139,7 +139,18 @@ fn with_seen(seq: u32, acknowledged: Acknowledged) -> Acknowledged
     after
 }
 
-/// The attempts of which presses said that they were seen, once something was heard.
+// The attempts that were seen, with each of these in order.
+fn with_each(seen: &[u32], acknowledged: Acknowledged) -> Acknowledged
+    ensures { result ≡ alarms.with_each seen.now acknowledged }
+{
+    let mut after = acknowledged;
+    for seq in seen {
+        after[*seq as usize % KEPT_SEEN] = *seq;
+    }
+    after
+}
+
+/// The attempts that were seen, once something was heard: by a press here, or elsewhere.
 pub(crate) fn acknowledged_by(
     acknowledged: Acknowledged,
     heard: &Heard,
@@ -159,6 +170,7 @@ pub(crate) fn acknowledged_by(
         } else {
             acknowledged
         },
+        Heard::Kept(kept) => with_each(&kept.seen, acknowledged),
         _ => acknowledged,
     }
 }

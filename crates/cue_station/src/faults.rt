@@ -1,7 +1,6 @@
 //! What went wrong in attempts: a device failed, or the standby was lost. Both are said as soon as a copy shows them,
 //! also while the attempt is live, and by the same number once it has ended.
 ghost use Rattle.std.specs.Prelude.{◌≡◌, IfOk, filter};
-ghost use Rattle.std.specs.Option.{option_to_list};
 ghost use Rattle.cue_station.specs.Faults as faults;
 
 use crate::heard::Copied;
@@ -30,8 +29,8 @@ fn is_lost(why: Option<Reason>) -> bool
     }
 }
 
-// Whether the device cannot go on.
-fn is_failed(answer: Answer) -> bool
+/// Whether the device cannot go on.
+pub(crate) fn is_failed(answer: Answer) -> bool
     ensures { result ≡ faults.is_failed answer }
 {
     match answer {
@@ -48,8 +47,8 @@ fn has_failed(answers: &[DeviceAnswer]) -> bool
     answers.iter().any(|answer| is_failed(answer.answer))
 }
 
-// Whether something went wrong in the live attempt.
-fn is_failing(attempt: &Attempt) -> bool
+/// Whether something went wrong in the live attempt.
+pub(crate) fn is_failing(attempt: &Attempt) -> bool
     ensures { result ≡ faults.is_failing attempt.now }
 {
     match attempt.stage {
@@ -59,18 +58,8 @@ fn is_failing(attempt: &Attempt) -> bool
     }
 }
 
-// The live attempts in which something went wrong.
-fn failing_in(alloc: Global, live: &[Attempt]) -> Result<Vec<u32>, AllocError>
-    ensures { IfOk result (λ numbers. numbers.items ≡ faults.failing_in live.now) }
-{
-    live.iter()
-        .filter(|attempt| is_failing(attempt))
-        .map(|attempt| attempt.seq)
-        .collect(alloc)
-}
-
-// Whether something went wrong in an attempt that ended so.
-fn is_fault(outcome: Outcome, why: Option<Reason>) -> bool
+/// Whether something went wrong in an attempt that ended so.
+pub(crate) fn is_fault(outcome: Outcome, why: Option<Reason>) -> bool
     ensures { result ≡ faults.is_fault outcome why }
 {
     match outcome {
@@ -138,39 +127,12 @@ fn failed_of(
         .collect(alloc)
 }
 
-// The attempts that have ended in which something went wrong: the last one, and those of the past.
-fn failed_in(alloc: Global, copy: &Copied) -> Result<Vec<u32>, AllocError>
-    ensures { IfOk result (λ numbers. numbers.items ≡ faults.failed_in copy.now) }
+/// The attempts of the past in which something went wrong, but for the last one.
+pub(crate) fn failed_before(alloc: Global, copy: &Copied) -> Result<Vec<u32>, AllocError>
+    ensures { IfOk result (λ numbers. numbers.items ≡ faults.failed_before copy.now) }
 {
     let numbers = ended_in(alloc, copy)?;
     let last = failed_last(&copy.events, copy.state.ended());
     let before = failed_of(alloc, &copy.events, last, &numbers)?;
-    let mut all = one_or_none(alloc, last)?;
-    all.extend_from_slice(&before)?;
-    Ok(all)
-}
-
-/// The number as a list, if there is one.
-pub(crate) fn one_or_none(alloc: Global, last: Option<u32>) -> Result<Vec<u32>, AllocError>
-    ensures { IfOk result (λ numbers. numbers.items ≡ option_to_list last) }
-{
-    let mut numbers = Vec::new(alloc);
-    match last {
-        Some(seq) => {
-            numbers.push(seq)?;
-            Ok(numbers)
-        }
-        None => Ok(numbers),
-    }
-}
-
-/// The attempts in which something went wrong, of those that the copy tells of: those that are live, the one that ended
-/// last, and those of the past.
-pub fn failures_of(alloc: Global, copy: &Copied) -> Result<Vec<u32>, AllocError>
-    ensures { IfOk result (λ numbers. numbers.items ≡ faults.failures_in copy.now) }
-{
-    let mut all = failing_in(alloc, copy.state.live().as_slice())?;
-    let ended = failed_in(alloc, copy)?;
-    all.extend_from_slice(&ended)?;
-    Ok(all)
+    Ok(before)
 }

@@ -4,7 +4,7 @@ use cue_desk::orders::DeskCommand;
 use cue_desk::replying::Replied;
 use cue_relay::status::Status;
 use cue_view::button::Button;
-use cue_view::view::Trouble;
+use cue_view::view::{Kept, Trouble};
 
 /// A copy of the store: what both files stood for at one moment, not before `begun`, and the events of the records that
 /// follow the snapshot, the oldest first.
@@ -31,6 +31,8 @@ pub enum Heard {
     Pressed(u64, Button),
     /// What the relay has written; none if that cannot be read.
     Relay(Option<Status>),
+    /// What another desk kept of what went wrong, or this one before it was started again.
+    Kept(Kept),
     Tick,
 }
 

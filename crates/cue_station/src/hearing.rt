@@ -138,6 +138,7 @@ pub(crate) fn take_in(
         Heard::Replied(ask, replied) => (Heard::Replied(ask, replied), Before::Same),
         Heard::Nobody(ask) => (Heard::Nobody(ask), Before::Same),
         Heard::Pressed(view, button) => (Heard::Pressed(view, button), Before::Same),
+        Heard::Kept(kept) => (Heard::Kept(kept), Before::Same),
         Heard::Tick => (Heard::Tick, Before::Same),
     }
 }
@@ -220,7 +221,8 @@ pub(crate) fn answered_with(
         }
         Heard::Nobody(ask) => forgotten(*ask, question, old),
         Heard::Replied(_, Replied::Reply { .. }) | Heard::Copied(_) | Heard::Same(_) => old,
-        Heard::Unread(_) | Heard::Pressed(_, _) | Heard::Relay(_) | Heard::Tick => old,
+        Heard::Unread(_) | Heard::Pressed(_, _) | Heard::Relay(_) => old,
+        Heard::Kept(_) | Heard::Tick => old,
     }
 }
 

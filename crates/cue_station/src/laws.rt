@@ -1,8 +1,10 @@
 //! The law of the desk. Each contract is a theorem; there is nothing to run.
 ghost use Rattle.std.specs.Prelude.{◌≡◌};
 ghost use Rattle.cue_station.specs.Examples.{LitUnheardIsRefused, OtherCueIsRefused, UnpressedIsRefused};
-ghost use Rattle.cue_station.specs.Readings.{AfterGoNothing, DeadlineIsDark, FailingIsSaid, NoCueAfterEnd};
-ghost use Rattle.cue_station.specs.declared.limits.TheConstants.{COPY_MS, KEPT_SEEN, KEPT_VIEWS, MAX_TOLD, OTHER_MS};
+ghost use Rattle.cue_station.specs.Readings.{AfterGoNothing, DeadlineIsDark, FailingIsSaid, FailureIsKept};
+ghost use Rattle.cue_station.specs.Readings.{NoCueAfterEnd};
+ghost use Rattle.cue_station.specs.declared.limits.TheConstants.{COPY_MS, KEPT_FAILURES, KEPT_SEEN, KEPT_VIEWS};
+ghost use Rattle.cue_station.specs.declared.limits.TheConstants.{MAX_TOLD, OTHER_MS};
 ghost use Rattle.cue_station.specs.declared.limits.TheConstants.{PRESS_MS, RELAY_MS, SHOWN_MS, STATUS_MS, TAP_MS};
 
 /// Without a place a cue is next only if none was given, and if the events tell of every attempt.
@@ -27,6 +29,12 @@ pub fn failing_is_said()
     ensures { FailingIsSaid }
 {}
 
+/// What is kept of a failure with its cue is shown with it, and has its alarm, until somebody says that it was seen: as
+/// long as no more than 64 are kept, and its number is one of the store's.
+pub fn a_failure_stays()
+    ensures { FailureIsKept }
+{}
+
 /// A GO that is lit before anything was heard breaks it.
 pub fn lit_unheard_is_refused()
     ensures { LitUnheardIsRefused }
@@ -44,8 +52,9 @@ pub fn other_cue_is_refused()
 
 /// What the desk stands by, in milliseconds: a copy for 1,000, a status for 2,000, a view for a press for 1,000. Another
 /// store is named after 1,000, a relay has stopped after 5,000. A press may name one of the newest 128 views, 8
-/// attempts are told as ended, and of 64 attempts in a row each keeps that it was seen. A GO within 1,000 of another is
-/// its second tap, and a press that was made is shown by the store within 1,000.
+/// attempts are told as ended, and of 64 attempts in a row each keeps that it was seen. Of what went wrong, and nobody
+/// has seen, 64 attempts are kept that the newest copy no longer tells of. A GO within 1,000 of another is its second
+/// tap, and a press that was made is shown by the store within 1,000.
 pub fn limits()
     ensures copy { COPY_MS ≡ 1000 }
     ensures status { STATUS_MS ≡ 2000 }
@@ -55,6 +64,7 @@ pub fn limits()
     ensures other { OTHER_MS ≡ 1000 }
     ensures relay { RELAY_MS ≡ 5000 }
     ensures seen { KEPT_SEEN ≡ 64 }
+    ensures failures { KEPT_FAILURES ≡ 64 }
     ensures tap { TAP_MS ≡ 1000 }
     ensures shown { SHOWN_MS ≡ 1000 }
 {}

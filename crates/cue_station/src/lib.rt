@@ -30,8 +30,9 @@
 //!   a device or the ten seconds gave up: who waits for the end hears of it too late. It stays until somebody says that
 //!   it was seen, also if later attempts end well: an operator who looked away has to find it. The attempt keeps its
 //!   number at its end, so that what was seen while it was live is no new alarm then. That one was seen says nothing of
-//!   another one. That press names a view, too. The newest failure stays also if a newer snapshot has swallowed its
-//!   events.
+//!   another one. That press names a view, too. It stays with its cue and its devices also if a newer snapshot has
+//!   swallowed its events: a copy that no longer knows the cue never replaces what one said that knew it. What is kept
+//!   so can be handed on, to another desk or to this one once it is started again, and with it what was seen.
 //! - If the snapshot has swallowed its start, an attempt that ended is shown without a cue: to guess it from the place
 //!   would name a wrong one after a move.
 //! - What is left of ten seconds is what the earlier of two clocks leaves: a clock that is put back makes no time.
@@ -48,10 +49,12 @@ pub mod asking;
 pub mod choosing;
 pub mod evening;
 pub mod evidence;
+pub mod failing;
 pub mod faults;
 pub mod following;
 pub mod heard;
 pub mod hearing;
+pub mod keeping;
 pub mod laws;
 pub mod lighting;
 pub mod limits;

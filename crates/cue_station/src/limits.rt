@@ -18,6 +18,9 @@ pub const KEPT_VIEWS: usize = 128;
 /// How many of the newest attempts keep that they were seen.
 pub const KEPT_SEEN: usize = 64;
 
+/// How many failures that the newest copy no longer tells of are kept until somebody says that they were seen.
+pub const KEPT_FAILURES: usize = 64;
+
 /// How long what is served has to disagree with the copy before it is called another store, in milliseconds: each
 /// change makes a short disagreement.
 pub const OTHER_MS: u64 = 1_000;

@@ -34,8 +34,8 @@ pub enum Choice {
     Attempt(u32),
 }
 
-/// The attempts of which presses said that they were seen, each at the place of its number among `KEPT_SEEN`. 0 is the
-/// number of none.
+/// The attempts of which somebody said that they were seen, here or elsewhere, each at the place of its number among
+/// `KEPT_SEEN`. 0 is the number of none.
 pub type Acknowledged = [u32; KEPT_SEEN];
 
 /// Since when an attempt is seen to be live.
@@ -150,9 +150,9 @@ pub struct Notes {
     pub press: Option<Pending>,
     /// The press before it, as long as that is open.
     pub beside: Option<Pending>,
-    /// The newest failure that a copy told of.
-    pub failed: Option<u32>,
-    /// The attempts of which presses said that they were seen.
+    /// The press before it, also once that is closed.
+    pub before: Option<Pending>,
+    /// The attempts that were seen.
     pub acknowledged: Acknowledged,
     /// The last press, if that moved the place.
     pub moved: Option<Moved>,

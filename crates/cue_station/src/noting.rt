@@ -1,7 +1,6 @@
 //! What the desk notes of what it hears and sends.
 ghost use Rattle.std.specs.Prelude.{◌≡◌, ◌+◌, [], ◌∷◌, IfOk};
 ghost use Rattle.std.specs.Option.{option_map};
-ghost use Rattle.cue_station.specs.Alarms.{failures_by};
 ghost use Rattle.cue_station.specs.Asking.{first_of, fresh, if_open, newest_in, sent_press};
 ghost use Rattle.cue_station.specs.Reading.{is_status};
 ghost use Rattle.cue_station.specs.Choosing as choosing;
@@ -17,7 +16,7 @@ use crate::lighting::{Footing, differs_by, stands_by};
 use crate::memory::{Answered, Choice, Notes, Pending, Question, Reading, Shown};
 use crate::moving::{moved_by, place_by};
 use crate::opening::{are_none, going_by, if_open, is_none_final, is_one_ask};
-use crate::remembering::{differs_with, failed_with, nobody_with, trouble_with};
+use crate::remembering::{differs_with, nobody_with, trouble_with};
 use cue_desk::orders::DeskCommand;
 use cue_view::button::Button;
 use std::alloc::AllocError;
@@ -60,6 +59,7 @@ fn with_presses(notes: &Notes, at: u64, heard: &Heard, reading: &Option<Reading>
     Notes {
         press: followed_on(&notes.press, at, heard, &notes.answered, reading),
         beside: if_open(&beside, reading),
+        before: followed_on(&notes.before, at, heard, &notes.answered, reading),
         ..*notes
     }
 }
@@ -89,42 +89,37 @@ fn grown_by(notes: &Notes, heard: &Heard, reading: &Option<Reading>) -> Choice
     }
 }
 
-// What is noted of the choice, and of the failures that were told and seen.
+// What is noted of the choice, and of the failures that were seen.
 fn with_choice(
     notes: &Notes,
     at: u64,
     heard: &Heard,
     reading: &Option<Reading>,
     views: &[Shown],
-    failures: &[u32],
 ) -> Notes
-    requires { failures.now ≡ failures_by reading.now }
     ensures { result ≡ noting.with_choice heard.now at reading.now views.now notes.now }
 {
     Notes {
         choice: chosen_by_press(grown_by(notes, heard, reading), heard, at, views),
-        failed: failed_with(failures, notes.failed),
         acknowledged: acknowledged_by(notes.acknowledged, heard, at, views),
         ..*notes
     }
 }
 
-/// What is noted once this was heard, before anything is sent. `failures`: those that the newest copy tells of.
+/// What is noted once this was heard, before anything is sent.
 pub(crate) fn notes_heard(
     notes: &Notes,
     at: u64,
     heard: &Heard,
     reading: &Option<Reading>,
     views: &[Shown],
-    failures: &[u32],
 ) -> Notes
-    requires { failures.now ≡ failures_by reading.now }
     ensures { result ≡ noting.notes_heard heard.now at reading.now views.now notes.now }
 {
     let answered = answered_with(notes.answered, notes.question, at, heard);
     let first = with_answer(notes, at, heard, &answered, reading);
     let second = with_presses(&first, at, heard, reading);
-    with_choice(&second, at, heard, reading, views, failures)
+    with_choice(&second, at, heard, reading, views)
 }
 
 /// What a lit button rests on at a moment by the two clocks.
@@ -169,6 +164,7 @@ fn with_press(notes: &Notes, at: u64, button: &Button, ask: u64, reading: &Optio
             shown: false,
         }),
         beside: beside_after(notes, reading),
+        before: notes.press,
         ..*notes
     }
 }
@@ -193,7 +189,7 @@ fn with_sent(notes: &Notes, at: u64, heard: &Heard, send: &Send, reading: &Optio
     match heard {
         Heard::Pressed(_, button) => with_press(notes, at, button, send.ask, reading),
         Heard::Copied(_) | Heard::Same(_) | Heard::Unread(_) | Heard::Replied(_, _) => *notes,
-        Heard::Nobody(_) | Heard::Relay(_) | Heard::Tick => *notes,
+        Heard::Nobody(_) | Heard::Relay(_) | Heard::Kept(_) | Heard::Tick => *notes,
     }
 }
 

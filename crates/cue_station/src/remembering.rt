@@ -23,7 +23,7 @@ pub fn trouble_with(heard: &Heard, old: Option<Trouble>) -> Option<Trouble>
         Heard::Unread(why) => Some(*why),
         Heard::Copied(_) | Heard::Same(_) => None,
         Heard::Replied(_, _) | Heard::Nobody(_) | Heard::Pressed(_, _) => old,
-        Heard::Relay(_) | Heard::Tick => old,
+        Heard::Relay(_) | Heard::Kept(_) | Heard::Tick => old,
     }
 }
 
@@ -117,27 +117,6 @@ pub fn differs_with(differs: bool, at: u64, old: Option<u64>) -> Option<u64>
     match old {
         Some(since) => Some(since),
         None => Some(at),
-    }
-}
-
-/// The newest failure that a copy told of, once a copy tells of these.
-pub fn failed_with(failures: &[u32], old: Option<u32>) -> Option<u32>
-    ensures { result ≡ alarms.newest failures.now old }
-{
-    let mut newest = old;
-    for seq in failures {
-        newest = later(*seq, newest);
-    }
-    newest
-}
-
-// The later of two.
-pub(crate) fn later(seq: u32, old: Option<u32>) -> Option<u32>
-    ensures { result ≡ alarms.later seq old }
-{
-    match old {
-        Some(other) => Some(other.max(seq)),
-        None => Some(seq),
     }
 }
 

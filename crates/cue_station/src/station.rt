@@ -1,14 +1,14 @@
 //! The desk as a machine.
 ghost use Rattle.std.specs.Prelude.{◌≡◌, [], IfOk, OnErr, OnOk};
-ghost use Rattle.cue_station.specs.Alarms.{failures_by};
+ghost use Rattle.cue_station.specs.Keeping.{numbers_seen};
 ghost use Rattle.cue_station.specs.Memory.{IsAfter, StepKeeps};
 ghost use Rattle.cue_station.specs.Noting as noting;
 ghost use Rattle.cue_station.specs.Pacing as pacing;
 ghost use Rattle.cue_station.specs.Stepping as stepping;
 
-use crate::faults::failures_of;
 use crate::heard::{Heard, Input, Send};
 use crate::hearing::{is_copy, put_back, seen_after, take_in};
+use crate::keeping::{failed_after, handed_on};
 use crate::limits::{KEPT_SEEN, KEPT_VIEWS};
 use crate::memory::{Buttons, Choice, Notes, Pace, Reading, Relayed, Seen, Shown};
 use crate::noting::{footing_by, notes_heard, notes_sent};
@@ -16,10 +16,11 @@ use crate::pacing::{is_due, pace_heard, pace_sent};
 use crate::pressing::{order_of, refusal_of};
 use crate::viewing::view_of;
 use cue_desk::orders::DeskCommand;
-use cue_view::view::{Unsent, View};
+use cue_view::view::{Kept, Told, Unsent, View};
 use std::alloc::{AllocError, Global};
 
-/// The desk. All that it keeps is bounded: one copy, one status, eight attempts, three asks, and the newest views.
+/// The desk. All that it keeps is bounded: one copy, one status, eight attempts, four asks, the newest views, and what
+/// went wrong and nobody has seen: that of the newest copy, and of 64 attempts beside it.
 #[derive(Drop)]
 pub struct Station {
     pub notes: Notes,
@@ -27,6 +28,7 @@ pub struct Station {
     pub reading: Option<Reading>,
     pub relay: Option<Relayed>,
     pub seen: Vec<Seen>,
+    pub failed: Vec<Told>,
     pub views: Vec<Shown>,
 }
 
@@ -43,6 +45,7 @@ struct Made {
     notes: Notes,
     pace: Pace,
     seen: Vec<Seen>,
+    failed: Vec<Told>,
     shown: Shown,
     step: Step,
 }
@@ -62,19 +65,9 @@ fn first_notes() -> Notes
         question: None,
         press: None,
         beside: None,
-        failed: None,
+        before: None,
         acknowledged: [0; KEPT_SEEN],
         moved: None,
-    }
-}
-
-// The failures that the newest copy tells of.
-fn failures_in(alloc: Global, reading: &Option<Reading>) -> Result<Vec<u32>, AllocError>
-    ensures { IfOk result (λ v. v.items ≡ failures_by reading.now) }
-{
-    match reading {
-        Some(reading) => failures_of(alloc, &reading.copy),
-        None => Ok(Vec::new(alloc)),
     }
 }
 
@@ -140,6 +133,7 @@ impl Station {
             reading: None,
             relay: None,
             seen: Vec::new(alloc),
+            failed: Vec::new(alloc),
             views: Vec::new(alloc),
         }
     }
@@ -150,6 +144,14 @@ impl Station {
         ensures { result ≡ pacing.is_due self.now.notes self.now.pace at }
     {
         is_due(&self.notes, self.pace, at)
+    }
+
+    /// What another desk is to know, or this one once it is started again: it hears it as `Heard::Kept`.
+    pub fn kept(&self, alloc: Global) -> Result<Kept, AllocError>
+        ensures failed { IfOk result (λ kept. kept.failed.items ≡ self.now.failed.items) }
+        ensures seen { IfOk result (λ kept. kept.seen.items ≡ numbers_seen self.now.notes.acknowledged) }
+    {
+        handed_on(alloc, &self.failed, &self.notes.acknowledged)
     }
 
     // Why the press that was heard is not heeded.
@@ -190,12 +192,11 @@ impl Station {
     }
 
     // What is noted, and sent, once the store and the relay were taken in.
-    fn notes_made(&self, input: &Input, is_new: bool, failures: &[u32]) -> Result<Noted, AllocError>
-        requires { failures.now ≡ failures_by self.now.reading }
+    fn notes_made(&self, input: &Input, is_new: bool) -> Result<Noted, AllocError>
         ensures { IfOk result (stepping.TakesNotes self.now input.now) }
     {
         let (at, heard) = (input.at, &input.heard);
-        let noted = notes_heard(&self.notes, at, heard, &self.reading, &self.views, failures);
+        let noted = notes_heard(&self.notes, at, heard, &self.reading, &self.views);
         let unsent = self.refusal(input);
         let pace = pace_heard(self.pace, self.notes.question, heard, is_new);
         let due = is_due(&noted, pace, at);
@@ -209,18 +210,36 @@ impl Station {
         })
     }
 
+    // What is kept of what went wrong, once this was heard; `notes`: what is noted then.
+    fn failed_next(
+        &self,
+        alloc: Global,
+        input: &Input,
+        notes: &Notes,
+    ) -> Result<Vec<Told>, AllocError>
+        ensures { IfOk result (λ v. v.items ≡ stepping.failed_in self.now input.now notes.now) }
+    {
+        failed_after(
+            alloc,
+            &notes.acknowledged,
+            &input.heard,
+            &self.reading,
+            &self.failed,
+        )
+    }
+
     // What the step makes of what was heard, once the store and the relay were taken in. Nothing is kept yet.
     fn make(&self, alloc: Global, input: &Input, is_new: bool) -> Result<Made, AllocError>
         ensures { IfOk result (stepping.MakesIn self.now input.now) }
     {
-        let failures = failures_in(alloc, &self.reading)?;
         let Noted {
             notes,
             pace,
             send,
             unsent,
-        } = self.notes_made(input, is_new, &failures)?;
+        } = self.notes_made(input, is_new)?;
         let seen = seen_after(alloc, &self.seen, input.at, &self.reading)?;
+        let failed = self.failed_next(alloc, input, &notes)?;
         let footing = footing_by(&notes, &self.reading, input.at, input.wall);
         let bare = view_of(
             alloc,
@@ -228,7 +247,7 @@ impl Station {
             &self.reading,
             &self.relay,
             &seen,
-            &failures,
+            &failed,
             footing,
         )?;
         let view = View {
@@ -241,6 +260,7 @@ impl Station {
             notes,
             pace,
             seen,
+            failed,
             shown,
             step: Step { view, send },
         })
@@ -255,6 +275,7 @@ impl Station {
             notes,
             pace,
             seen,
+            failed,
             shown,
             step,
         } = made;
@@ -262,6 +283,7 @@ impl Station {
         self.notes = notes;
         self.pace = pace;
         self.seen = seen;
+        self.failed = failed;
         Ok(step)
     }
 

@@ -188,8 +188,8 @@ pub(crate) fn outcome_in(seq: u32, events: &[Event]) -> Outcome
     }
 }
 
-// What is told of an attempt that ended so.
-fn told_of(alloc: Global, events: &[Event], ended: Ended) -> Result<Told, AllocError>
+/// What is told of an attempt that ended so.
+pub(crate) fn told_of(alloc: Global, events: &[Event], ended: Ended) -> Result<Told, AllocError>
     ensures { IfOk result (λ told. told ≡ telling.told_of events.now ended) }
 {
     let failed = failed_in(alloc, ended.seq, events)?;
@@ -264,8 +264,12 @@ fn told_by(alloc: Global, copy: &Copied, seq: u32) -> Result<Told, AllocError>
     told_of(alloc, events, Ended { seq, outcome })
 }
 
-// What is told of each of the attempts.
-fn told_each(alloc: Global, copy: &Copied, numbers: &[u32]) -> Result<Vec<Told>, AllocError>
+/// What is told of each of the attempts.
+pub(crate) fn told_each(
+    alloc: Global,
+    copy: &Copied,
+    numbers: &[u32],
+) -> Result<Vec<Told>, AllocError>
     ensures { IfOk result (λ past. past.items
         ≡ map (λ q. telling.told_of copy.now.events.items (telling.end_of copy.now.events.items q)) numbers.now) }
 {

@@ -2,6 +2,7 @@
 ghost use Rattle.std.specs.Prelude.{◌≡◌, IfOk};
 ghost use Rattle.cue_station.specs.Alarms as alarms;
 ghost use Rattle.cue_station.specs.Drawing as drawing;
+ghost use Rattle.cue_station.specs.Keeping.{numbers_of};
 ghost use Rattle.cue_station.specs.Network.{network_by};
 ghost use Rattle.cue_station.specs.Showing.{since_in};
 ghost use Rattle.cue_station.specs.Viewing as viewing;
@@ -9,6 +10,7 @@ ghost use Rattle.cue_station.specs.Viewing as viewing;
 use crate::alarms::{Facts, alarms_of, put_back_in};
 use crate::following::next_in;
 use crate::heard::Copied;
+use crate::keeping::{numbers_of, shown_failures};
 use crate::lighting::{Footing, asked_at, read_at};
 use crate::lit::lit_of;
 use crate::memory::{Notes, Reading, Relayed, Seen};
@@ -55,8 +57,6 @@ fn facts_of(notes: &Notes, reading: &Option<Reading>, relay: &Option<Relayed>, a
         stamped: stamped_at(relay),
         read: read_at(reading),
         trouble: notes.trouble,
-        failed: notes.failed,
-        acknowledged: notes.acknowledged,
         unshown: unshown_by(&notes.press),
     }
 }
@@ -95,15 +95,16 @@ fn alarms(
     reading: &Option<Reading>,
     seen: &[Seen],
     wall: u64,
-    failures: &[u32],
+    failed: &[Told],
     network: &[Contacted],
 ) -> Result<Vec<Alarm>, AllocError>
     ensures { IfOk result (λ v. v.items ≡ alarms.alarms_by facts
         (alarms.put_back_in (since_in seen.now) facts.at wall (drawing.live_by reading.now))
-        failures.now network.now) }
+        (numbers_of failed.now) network.now) }
 {
     let put_back = put_back(alloc, reading, seen, facts.at, wall)?;
-    alarms_of(alloc, facts, &put_back, failures, network)
+    let numbers = numbers_of(alloc, failed)?;
+    alarms_of(alloc, facts, &put_back, &numbers, network)
 }
 
 // What is shown if nothing was read.
@@ -177,7 +178,7 @@ fn lit(
 }
 
 /// The view of the notes, of the newest copy, of the relay and of the attempts that are seen, without a number.
-/// `failures`: those that the copy tells of.
+/// `kept`: what is kept of what went wrong.
 #[tactic(auto, using(crate::proofs::MoveLemmas::drawn_stack))]
 pub(crate) fn view_of(
     alloc: Global,
@@ -185,23 +186,15 @@ pub(crate) fn view_of(
     reading: &Option<Reading>,
     relay: &Option<Relayed>,
     seen: &[Seen],
-    failures: &[u32],
+    kept: &[Told],
     footing: Footing,
 ) -> Result<View, AllocError>
-    requires { failures.now ≡ alarms.failures_by reading.now }
-    ensures { IfOk result (viewing.IsView notes.now reading.now relay.now seen.now footing) }
+    ensures { IfOk result (viewing.IsView notes.now reading.now relay.now seen.now kept.now footing) }
 {
     let network = network(alloc, relay, footing.at)?;
     let facts = facts_of(notes, reading, relay, footing.at);
-    let alarms = alarms(
-        alloc,
-        facts,
-        reading,
-        seen,
-        footing.wall,
-        failures,
-        &network,
-    )?;
+    let failed = shown_failures(alloc, reading, kept)?;
+    let alarms = alarms(alloc, facts, reading, seen, footing.wall, &failed, &network)?;
     let Drawn {
         next,
         place,
@@ -224,9 +217,11 @@ pub(crate) fn view_of(
         chosen: footing.chosen,
         lit,
         said: said_by(&notes.press, reading),
+        before: said_by(&notes.before, reading),
         unsent: None,
         last,
         past,
+        failed,
         network,
         alarms,
     })

@@ -77,6 +77,15 @@ pub struct Told {
     pub excused: Devices,
 }
 
+/// What a desk keeps of what went wrong, so that another desk, or the same one once it is started again, knows it.
+#[derive(Drop)]
+pub struct Kept {
+    /// The failures that nobody has said he saw: the newest first.
+    pub failed: Vec<Told>,
+    /// The attempts whose failure somebody has said he saw.
+    pub seen: Vec<u32>,
+}
+
 /// What became of a press.
 #[derive(Clone, Copy, PartialEq, Eq, Debug)]
 pub enum Became {
@@ -201,10 +210,14 @@ pub struct View {
     pub chosen: Option<u32>,
     pub lit: Vec<Button>,
     pub said: Option<Said>,
+    /// The press before the last one, and what became of it.
+    pub before: Option<Said>,
     pub unsent: Option<Unsent>,
     pub last: Option<Told>,
     /// The attempts that ended, as far as the events tell of their starts; the newest first.
     pub past: Vec<Told>,
+    /// The failures that nobody has said he saw, each as a copy told of it that knew its cue. Each has its alarm.
+    pub failed: Vec<Told>,
     /// What the relay says of its devices; empty if none is watched, or it has stopped.
     pub network: Vec<Contacted>,
     pub alarms: Vec<Alarm>,

@@ -39,6 +39,8 @@ pub struct Web {
     pub file: Option<String>,
     /// The file in which a relay reports.
     pub relay: Option<String>,
+    /// The file in which the alarms are kept.
+    pub alarms: Option<String>,
     /// The port of 127.0.0.1 at which the page is.
     pub http: u16,
     /// The port of the controller, if the command line or the environment says it.
@@ -89,6 +91,10 @@ pub(super) const WEB_COMMAND: Declared = Declared {
             "The same, with the first line of this file as the word",
         ),
         RELAY_STATUS,
+        Argument::Option(
+            "alarms",
+            "Keeps the alarms that nobody has seen in this file; with --read-only: those of the page that keeps them",
+        ),
         PORT_OR_FILE,
         ASKER,
     ],
@@ -224,5 +230,6 @@ pub fn web_in(alloc: Global, found: &ArgMatches<'_>) -> Result<Web, LineFault>
         dir: text_in(alloc, found, "DIR")?,
         file: option_in(alloc, found, "FILE")?,
         relay: option_in(alloc, found, "relay")?,
+        alarms: option_in(alloc, found, "alarms")?,
     })
 }

@@ -66,7 +66,7 @@ pub(super) fn told_or_null(alloc: Global, told: Option<&Told>) -> Result<Value, 
     }
 }
 
-/// How the attempts before it ended, the newest first.
+/// How each of these ended, or fails.
 pub(super) fn past_value(alloc: Global, past: &[Told]) -> Result<Value, AllocError>
     ensures { IfOk result (λ v. view v ≡ array (items_of (map ends.told_data past.now))) }
 {

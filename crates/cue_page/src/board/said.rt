@@ -33,7 +33,7 @@ fn press_value(alloc: Global, press: Said, port: u16) -> Result<Value, AllocErro
     json!(in alloc; {"ask": press.ask, "kind": kind_of(press.became), "press": text, "words": words})
 }
 
-/// The last press that was sent, and what became of it; null if none was.
+/// A press that was sent, and what became of it; null if none was.
 pub(super) fn said_value(alloc: Global, press: Option<Said>, port: u16) -> Result<Value, AllocError>
     ensures { IfOk result (λ v. view v ≡ said.said_data port press) }
 {

@@ -6,7 +6,7 @@ pub(super) const ALARMS: &str = r#"
 let spoken = "";
 
 function endWords(told) {
-  const failed = failedWords(told.failed);
+  const failed = failedWords(told.failed, told.outcome === "failed");
   const without = told.excused.length ? " without device " + devicesWords(told.excused) : "";
   return cueWords(told) + ": " + told.outcome + (told.reason ? ": " + told.reason : "") + failed + without;
 }
@@ -16,7 +16,7 @@ function faultWords(attempt) {
   const failed = attempt.devices.filter((one) => one.answer === "failed").map((one) => one.device);
   const fault = attempt.reason ? " lost its standby: " + attempt.reason : " fails", waits = waitedFor(attempt);
   const rest = waits.length ? "; still waiting for device " + devicesWords(waits) : "";
-  return cueWords(attempt) + fault + failedWords(failed) + rest;
+  return cueWords(attempt) + fault + failedWords(failed, attempt.stage === "given") + rest;
 }
 
 // What moves by itself once what is missing is back: a cue that was given waits for it. `isOf`: whether the device is
@@ -33,7 +33,7 @@ const BACK = { relay: () => true, silent: () => true };
 function alarmWords(alarm) {
   const live = alarm.kind === "failed" && view.live.find((one) => one.attempt === alarm.of);
   if (live) return faultWords(live);
-  const told = alarm.kind === "failed" && [view.last, ...view.past].find((one) => one && one.attempt === alarm.of);
+  const told = alarm.kind === "failed" && view.failed.find((one) => one.attempt === alarm.of);
   if (told) return endWords(told);
   if (alarm.kind === "device")
     return "device " + called(alarm.of, deviceName(alarm.of)) + " is silent" + owedWords((one) => one === alarm.of);

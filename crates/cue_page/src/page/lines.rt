@@ -54,9 +54,25 @@ function noteNow() {
   return now() < note.until && !isNew && note.holds() ? note.draw() : null;
 }
 
+// The press before the last one, while nobody knew what became of it: its end is told, too, whatever was pressed then.
+const opened = new Set();
+let closed = { ask: 0, until: 0 };
+
+function followBefore() {
+  const before = view.before;
+  if (view.said && view.said.kind === "open") opened.add(view.said.ask);
+  if (before && before.kind !== "open" && opened.delete(before.ask)) closed = { ask: before.ask, until: now() + NOTED };
+}
+
+function beforeWords() {
+  const before = view.before;
+  const isTold = before && (before.kind === "open" || (before.ask === closed.ask && now() < closed.until));
+  return isTold ? "; before it, " + before.press + ": " + before.words : "";
+}
+
 function showWords() {
   const said = view && view.said, noted = noteNow();
   at("words").className = noted ? noted[1] : said ? said.kind : "";
-  write("words", noted ? noted[0] : said ? pressWords(said.press) + ": " + said.words : KEYS);
+  write("words", noted ? noted[0] : said ? pressWords(said.press) + ": " + said.words + beforeWords() : KEYS);
 }
 "#;

@@ -10,7 +10,7 @@ const since = new Map();
 
 const hasFailed = (device) =>
   view.live.some((one) => one.devices.some((answer) => answer.device === device && answer.answer === "failed"))
-  || [view.last, ...view.past].some((told) => told && told.failed.includes(device));
+  || [view.last, ...view.past, ...view.failed].some((told) => told && told.failed.includes(device));
 
 // GO was sent to the device, it has not answered, and no cue waits for it.
 const isLeft = (contact) => contact.heard.startsWith("moving") && hasFailed(contact.device)
@@ -24,9 +24,9 @@ function followMoving() {
 
 const mayMove = (device) => since.has(device) && now() - since.get(device) > SETTLED;
 
-// What the devices did that failed.
-function failedWords(devices) {
-  const known = view.network.length ? devices.filter((one) => !since.has(one)) : [];
+// What the devices did that failed. Before a GO only an abort is a failure.
+function failedWords(devices, isGiven) {
+  const known = view.network.length || !isGiven ? devices.filter((one) => !since.has(one)) : [];
   const moving = devices.filter(mayMove);
   const open = devices.filter((one) => !known.includes(one) && !moving.includes(one));
   const words = (some, did) => some.length ? ": device " + devicesWords(some) + did : "";

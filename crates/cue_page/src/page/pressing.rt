@@ -29,6 +29,7 @@ function take(told) {
   heard = now();
   followChoice();
   followMoving();
+  followBefore();
   manner = { locked: told.locked, readonly: told.readonly, told: told.told };
   takeNames(told.names);
   if (now() > sure.until) sure = { press: "", until: 0 };

@@ -4,9 +4,9 @@ use super::opening::open_desk;
 use super::renewing::{Begun, Renewed, begin};
 use cue_desk::ending::Ending;
 use cue_desk_line::{PageUse, Web};
-use cue_desk_run::{Desk, Sources};
+use cue_desk_run::{AlarmsFile, Desk, Sources};
 use cue_request::identity::{PageIdentity, Purpose};
-use cue_saying::{failed, print, say, say_fault};
+use cue_saying::{Shown, failed, print, say, say_fault};
 use cue_show_file::Group;
 use cue_web::{Beside, Connections, Pages};
 use hex::encode;
@@ -84,8 +84,42 @@ impl<R: Files<File = File> + Net + Clock + Eprint + AllocGlobal> Server<'_, R> {
                 return Err(failed(self.rt, &why));
             }
             say_fault(self.rt, self.desk.take_fault());
+            say_loss(self.rt, self.desk.take_loss());
         }
         Ok(())
+    }
+}
+
+// Says why the alarms are not kept, if that is so.
+fn say_loss<R: Eprint>(rt: &R, loss: Option<io::Error>) {
+    if let Some(why) = loss {
+        say(rt, format_args!("the alarms cannot be kept: {why}"));
+    }
+}
+
+// Keeps the alarms of the page where the command line says; a page that only shows hears of those of another.
+fn keep_alarms<'a, R: Files<File = File> + Net + Clock + Eprint + AllocGlobal>(
+    rt: &R,
+    web: &'a Web,
+    desk: &mut Desk<'a, R>,
+) -> Result<(), Ending> {
+    let Some(path) = web.alarms.as_deref() else {
+        return Ok(());
+    };
+    let file = match web.page_use {
+        PageUse::Plays(_) => AlarmsFile::Own(path),
+        PageUse::Shows(_) => AlarmsFile::OfAnother(path),
+    };
+    match desk.keep_alarms(file) {
+        Ok(()) => Ok(()),
+        Err(why) => {
+            let path = Shown { text: path };
+            say(
+                rt,
+                format_args!("{path}: no file of alarms, and left as it is: {why}"),
+            );
+            Err(Ending::Failed)
+        }
     }
 }
 
@@ -185,7 +219,10 @@ pub fn serve_page<
     };
     let page = (identity, token.as_str(), run);
     let mut server = open_server(rt, web, page, begun, &together)?;
-    let served = serve_at(&mut server, web.http, writer);
+    let served = match keep_alarms(rt, web, &mut server.desk) {
+        Ok(()) => serve_at(&mut server, web.http, writer),
+        Err(ending) => Err(ending),
+    };
     drop(server);
     served
 }

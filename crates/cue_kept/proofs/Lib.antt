@@ -1,0 +1,4 @@
+pub mod CutLemmas
+pub mod KeptLemmas
+pub mod LineLemmas
+pub mod LoopLemmas

@@ -1,0 +1,4 @@
+pub mod Alarms
+pub mod Laws
+pub mod Reading
+pub mod Text

@@ -725,6 +725,8 @@ static struct cell higher_cell(bool is_at_work, uint32_t column)
     ensures device->cue_length == order.cue_length && device->bytes_length == order.bytes_length;
     ensures is_kept(&device->cue[0], 16, datagram + order.cue_at, order.cue_length);
     ensures is_kept(&device->bytes[0], 32, datagram + order.bytes_at, order.bytes_length);
+    ensures \forall integer k; 0 <= k < order.cue_length ==> device->cue[k] == \old(datagram[order.cue_at + k]);
+    ensures \forall integer k; 0 <= k < order.bytes_length ==> device->bytes[k] == \old(datagram[order.bytes_at + k]);
     ensures same_name{Pre, Post}(device) && same_work{Pre, Post}(device) && same_controller{Pre, Post}(device); */
 static void begin(struct cue_device *device, const uint8_t *datagram, struct order order)
 {
@@ -812,6 +814,14 @@ static uint32_t obey_higher(struct cue_device *device, const struct cue_place *f
 {
     const struct cell cell = higher_cell(device->doing != (uint32_t)CUE_NO_ORDER, (uint32_t)order.column);
     begin(device, datagram, order);
+    /*@ assert order.cue_length > 0 ==> order.cue_at == 32; */
+    /*@ assert order.bytes_length > 0 ==> order.bytes_at == blob_at(order.cue_length) + 4; */
+    /*@ assert \forall integer k; 0 <= k < order.cue_length ==>
+          device->cue[k] == \at(datagram[order.cue_at + k], Pre); */
+    /*@ assert \forall integer k; order.cue_length <= k < 16 ==> device->cue[k] == 0; */
+    /*@ assert \forall integer k; 0 <= k < order.bytes_length ==>
+          device->bytes[k] == \at(datagram[order.bytes_at + k], Pre); */
+    /*@ assert \forall integer k; order.bytes_length <= k < 32 ==> device->bytes[k] == 0; */
     /*@ assert heard_new{Pre, Here}(device, datagram, order.attempt, order.cue_length, order.bytes_length); */
     return take(device, from, cell, answer);
 }

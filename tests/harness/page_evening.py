@@ -5,6 +5,7 @@ import socket
 import subprocess
 import sys
 import tempfile
+import threading
 import time
 from pathlib import Path
 
@@ -219,12 +220,36 @@ def full_text():
     return "\n".join(devices + cues)
 
 
-def write_status(path, devices, now=None):
-    """What a relay says of these devices: for each the seconds since it was heard, or none, and whether it is silent."""
+def write_status(path, devices, now=None, moving=()):
+    """What a relay says of these devices: for each the seconds since it was heard, or none, and whether it is silent;
+    and which of them were ordered to go, and have not answered."""
     now = time.time_ns() // 10**6 if now is None else now
     lines = [f"relay 2 {now}", "passed 7 lost 0 dropped 2"]
     for number, (ago, silent) in devices.items():
         heard = "never" if ago is None else f"heard {now - 1000 * ago}"
-        lines.append(f"device {number} 10.0.7.31:{9000 + number} {heard}{' standby silent' if silent else ''}")
+        order = " go" if number in moving else " standby silent" if silent else ""
+        lines.append(f"device {number} 10.0.7.31:{9000 + number} {heard}{order}")
     path.with_suffix(".new").write_text("\n".join([*lines, "end", ""]))
     path.with_suffix(".new").rename(path)
+
+
+class Telling(threading.Thread):
+    """A relay that goes on writing what it says of these devices."""
+
+    def __init__(self, path, devices):
+        super().__init__(daemon=True)
+        self.path, self.devices, self.moving, self.ends = path, devices, (), threading.Event()
+        self.has_stopped = False
+
+    def run(self):
+        while not self.ends.wait(0.1):
+            if not self.has_stopped:
+                write_status(self.path, self.devices, moving=self.moving)
+
+    def __enter__(self):
+        self.start()
+        return self
+
+    def __exit__(self, *fault):
+        self.ends.set()
+        self.join()

@@ -6,7 +6,7 @@ import time
 import serving
 from browser import ESCAPE
 from checking import check
-from page_evening import SHOWN, TOGETHER, is_checked, write_status
+from page_evening import SHOWN, TOGETHER, Telling, is_checked, write_status
 from page_look import CONTRAST, calls, has_contrast, in_windows, sounded
 
 
@@ -275,6 +275,34 @@ def follows(page, evening, cues=("1", "2", "3", "4", "1")):
           is_checked(evening.desk) or (statistics.median(found) <= 350 and max(found) < 500))
 
 
+def stays_in_sight(page, evening, relay):
+    """A device is released while it moves: until it has answered, the page says that it may still move."""
+    evening.play(move=25000)
+    check("nothing is live", page.shows("live", "Nothing is stood by", 20))
+    with Telling(relay, {4: (1, False)}) as told:
+        goes_to(page, "3")
+        page.click("standby")
+        check("GO lights", is_lit(page, "3"))
+        page.click("go")
+        check("it is given", page.shows("live", "given"))
+        told.moving, told.has_stopped = (4,), True
+        check("a relay that stops is said to be silent at once", page.shows("age", "relay silent for", 1.0))
+        check("then it is an alarm, with what moves once it is back",
+              page.shows("alarm-0", "each of these that it reaches moves at once: device 4"))
+        told.has_stopped = False
+        check("the relay says that it moves", page.shows("heard-4", "moving"))
+        releases(page, 4)
+        check("a device that was released may still move", page.shows("alarms", "was released: it may still move", 1.5))
+        check("and is never said to have aborted", "aborted" not in page.text("alarms"))
+        releases(page, 20)
+        check("it ends", ends(page, "3", "failed"))
+        check("what has not answered stays in sight", page.shows("alarms", "was released: it may still move"))
+        told.moving = ()
+        check("once it has answered nobody knows which it was", page.shows("alarms", "aborted or released"))
+        check("it was seen", sees(page))
+    evening.stop("devices")
+
+
 def hears(page, evening, relay, pictures):
     """When each device of a relay was heard, on the page and for a screen reader."""
     page.open(f"http://127.0.0.1:{evening.http}/")
@@ -322,6 +350,8 @@ def gives_up(page):
     """Cue 5, which waits for device 22, is given up, if that has not come by itself."""
     page.key(ESCAPE)
     check("it is given up", page.shows("live", "given up"))
+    page.key("s")
+    check("STANDBY is dark for what still has to let go", page.shows("words", "STANDBY is not lit: cue 5 is given up"))
     releases(page, 22)
     check("it ends once nobody waits for who is silent", ends(page, "5", "cancelled"))
 

@@ -19,6 +19,7 @@ use Rattle.cue_view.specs.declared.view.LiveAttempt.{LiveAttempt}
 use Rattle.cue_view.specs.declared.view.Next.{Next}
 use Rattle.cue_view.specs.declared.view.Next.TheVariants as next
 use Rattle.cue_view.specs.declared.view.View.{View}
+use Rattle.cue_view.specs.Late.{relay_late, serve_late}
 use Rattle.cue_board.specs.Alarms.{alarm_words}
 use Rattle.cue_board.specs.Columns.{fit_of}
 use Rattle.cue_board.specs.Ends.{last_said}
@@ -230,13 +231,26 @@ abbrev pub alarm_said : ℕ → View → List (List ℕ)
 alarm_said port v = called port v (loudest v)
 
 -- how old the copy is that is shown
-abbrev pub read_said : ℕ → Option ℕ → List ℕ
-read_said at (Some read) = codes "READ   " ++ (seconds (at - read) ++ codes " s ago")
-read_said at None = codes "READ   nothing yet"
+abbrev pub age_said : ℕ → Option ℕ → List ℕ
+age_said at (Some read) = codes "READ   " ++ (seconds (at - read) ++ codes " s ago")
+age_said at None = codes "READ   nothing yet"
+
+-- for how long the controller is silent, if it is late; and the relay
+abbrev pub serve_said : Option ℕ → List ℕ
+serve_said (Some silent) = codes "; serve silent for " ++ (seconds silent ++ codes " s")
+serve_said None = []
+
+abbrev pub relay_said : Option ℕ → List ℕ
+relay_said (Some silent) = codes "; relay silent for " ++ (seconds silent ++ codes " s")
+relay_said None = []
+
+-- the age, and who is late
+abbrev pub read_said : View → List ℕ
+read_said v = age_said v.at v.read ++ (serve_said (serve_late v) ++ relay_said (relay_late v))
 
 -- the attempt that ended last, and the age of what is shown
 abbrev pub ends_said : Names → View → List (List ℕ)
-ends_said names v = last_said names v.last ∷ read_said v.at v.read ∷ []
+ends_said names v = last_said names v.last ∷ read_said v ∷ []
 
 -- the loudest alarm, the stack, each live attempt with its devices, the last attempt, and the age
 abbrev pub board_with : ℕ → Names → View → List (List ℕ)

@@ -89,9 +89,37 @@ fn push_alarm(
     Ok(())
 }
 
+// For how long the controller is silent, if it is late.
+fn serve_said(alloc: Global, late: Option<u64>) -> Result<String, AllocError>
+    ensures { IfOk result (λ text. string_bytes text ≡ board.serve_said late) }
+{
+    match late {
+        Some(millis) => {
+            let silent = seconds(alloc, millis)?;
+            let silent = silent.as_str();
+            Ok(format!(in alloc; "; serve silent for {silent} s")?)
+        }
+        None => Ok(String::new(alloc)),
+    }
+}
+
+// The same of the relay.
+fn relay_said(alloc: Global, late: Option<u64>) -> Result<String, AllocError>
+    ensures { IfOk result (λ text. string_bytes text ≡ board.relay_said late) }
+{
+    match late {
+        Some(millis) => {
+            let silent = seconds(alloc, millis)?;
+            let silent = silent.as_str();
+            Ok(format!(in alloc; "; relay silent for {silent} s")?)
+        }
+        None => Ok(String::new(alloc)),
+    }
+}
+
 // How old the copy is that is shown.
-fn read_said(alloc: Global, view: &View) -> Result<String, AllocError>
-    ensures { IfOk result (λ text. string_bytes text ≡ board.read_said view.now.at view.now.read) }
+fn age_said(alloc: Global, view: &View) -> Result<String, AllocError>
+    ensures { IfOk result (λ text. string_bytes text ≡ board.age_said view.now.at view.now.read) }
 {
     match view.read {
         Some(read) => {
@@ -101,6 +129,17 @@ fn read_said(alloc: Global, view: &View) -> Result<String, AllocError>
         }
         None => String::from_str(alloc, "READ   nothing yet"),
     }
+}
+
+// The same, and which of controller and relay is late.
+fn read_said(alloc: Global, view: &View) -> Result<String, AllocError>
+    ensures { IfOk result (λ text. string_bytes text ≡ board.read_said view.now) }
+{
+    let age = age_said(alloc, view)?;
+    let serve = serve_said(alloc, view.serve_late())?;
+    let relay = relay_said(alloc, view.relay_late())?;
+    let (age, serve, relay) = (age.as_str(), serve.as_str(), relay.as_str());
+    Ok(format!(in alloc; "{age}{serve}{relay}")?)
 }
 
 // Puts the attempt that ended last and the age after the lines.

@@ -11,8 +11,8 @@
 //!   even that one has room, the devices of an attempt that have answered the same share a line.
 //! - There is a line for the loudest alarm alone. A failure has one while its attempt is live, with its cue and its
 //!   devices; after that the line of the last cue says it. On a terminal nobody can say that a failure was seen.
-//! - While the controller or the relay has stopped, a line says what each cue that was given moves as soon as it is back:
-//!   who starts it again has to know that before.
+//! - While the controller or the relay has stopped, a line says what each cue that was given moves as soon as it is
+//!   back: who starts it again has to know that before.
 //! - In the line of the last cue its name stands before how it ended, and has 28 columns at most, so that the end is
 //!   not cut away. A text has at most four bytes a column: marks that belong to the letter before them take no column.
 //! - A line of the log takes up to three lines: the reason stands at its end.

@@ -79,8 +79,9 @@ impl<'a, R: Files<File = File> + Net + Clock + Eprint + AllocGlobal> Hand<'a, R>
 
     // Whether what the view says is all that can be known.
     fn is_settled(&self) -> Result<bool, AllocError> {
-        let trouble = trouble_words(self.rt.alloc(), self.desk.view(), self.port)?;
-        Ok(trouble.is_none() && self.desk.is_complete() && !self.desk.differs())
+        let view = self.desk.view();
+        let trouble = trouble_words(self.rt.alloc(), view, self.port)?;
+        Ok(trouble.is_none() && view.is_complete() && !view.differs)
     }
 
     // Presses what is lit.
@@ -109,7 +110,7 @@ impl<'a, R: Files<File = File> + Net + Clock + Eprint + AllocGlobal> Hand<'a, R>
 
     // Tries once.
     fn attempt(&mut self) -> Result<Progress, AllocError> {
-        match meaning(self.desk.view(), self.desk.awaits(), None, &self.intent) {
+        match meaning(self.desk.view(), None, &self.intent) {
             Ok(press) => Ok(self.press(&press)),
             Err(why) => self.hindered(why),
         }

@@ -9,8 +9,8 @@ use cue_press_words::{
     button_words, intent_words, key_words, spoken_words, trouble_words, why_words,
 };
 use cue_presses::{
-    Address, Intent, Keys, Passed, Pedals, Press, Settling, Spoken, Tally, Why, intent_of,
-    is_first_of_keys, is_of_keys, is_second_tap, meaning, newest_of, pedals_after, spoken_to,
+    Address, Hand, Intent, Keys, Passed, Press, Spoken, Struck, Tally, Why, intent_of,
+    is_first_of_keys, is_of_keys, spoken_to,
 };
 use cue_view::button::Button;
 use cue_view::view::Unsent;
@@ -21,9 +21,6 @@ use std::fs::{File, Files};
 use std::net::Net;
 use std::time::Clock;
 use std::{io, mem};
-
-/// How many presses are heard in a round: nobody has more fingers.
-const MAX_PRESSES: u32 = 8;
 
 /// How many milliseconds lie between two lines about presses that were too many.
 const FLOOD: u64 = 1_000;
@@ -58,21 +55,15 @@ pub struct Panel<'a, R> {
     desk: Desk<'a, R>,
     setting: Setting,
     parser: Parser,
-    pedals: Pedals,
-    settling: Settling,
+    hand: Hand,
     tally: Tally,
-    // This moment.
-    now: u64,
-    // How many presses were heard in this round.
-    count: u32,
     // How many waited in the device, and how many were too many at once.
     waited: u64,
     flooded: u64,
     floods: Beat,
-    // When the last cue was given here, and the newest attempt that was live then.
-    last_go: Option<u64>,
-    passed: Option<u32>,
+    // The newest press whose end is not told yet, and the one before it.
     pending: Option<Pending>,
+    before: Option<Pending>,
     text: String,
 }
 
@@ -95,17 +86,13 @@ impl<'a, R: Files<File = File> + Net + Clock + AllocGlobal> Panel<'a, R> {
             desk,
             setting,
             parser: Parser::new(),
-            pedals: Pedals::unheard(),
-            settling: Settling::new(0),
+            hand: Hand::idle(),
             tally: Tally::new(alloc),
-            now: 0,
-            count: 0,
             waited: 0,
             flooded: 0,
             floods: Beat::of(FLOOD),
-            last_go: None,
-            passed: None,
             pending: None,
+            before: None,
             text: String::new(alloc),
         }
     }
@@ -166,25 +153,22 @@ impl<'a, R: Files<File = File> + Net + Clock + AllocGlobal> Panel<'a, R> {
     /// A device is opened at this moment.
     pub fn opened(&mut self, now: u64) {
         self.parser = Parser::new();
-        self.pedals = Pedals::unheard();
-        self.settling = Settling::new(now);
+        self.hand = self.hand.opened(now);
     }
 
     /// A round begins at this moment.
     pub fn begin(&mut self, now: u64) {
-        self.now = now;
-        self.count = 0;
-        self.settling = self.settling.read(now);
+        self.hand = self.hand.begun(now);
     }
 
     /// Whether what is read may press: nothing of it waited in the device.
     pub fn is_settled(&self) -> bool {
-        self.settling.is_over()
+        self.hand.settling.is_over()
     }
 
     /// A read in this round has found nothing: all that waited in the device is heard.
     pub fn emptied(&mut self) {
-        self.settling = self.settling.emptied(self.now);
+        self.hand = self.hand.emptied();
     }
 
     /// Hears bytes.
@@ -202,9 +186,10 @@ impl<'a, R: Files<File = File> + Net + Clock + AllocGlobal> Panel<'a, R> {
         if let Heard::Show(show) = heard {
             return self.take_show(show);
         }
-        let intent = intent_of(&self.setting.keys, &self.pedals, heard);
-        let is_first = is_first_of_keys(&self.setting.keys, &self.pedals, heard);
-        self.pedals = pedals_after(&self.setting.keys, &self.pedals, heard);
+        let keys = &self.setting.keys;
+        let intent = intent_of(keys, &self.hand.pedals, heard);
+        let is_first = is_first_of_keys(keys, &self.hand.pedals, heard);
+        self.hand = self.hand.after(keys, heard);
         match (intent, passed_of(heard)) {
             (Some(intent), Some(passed)) => {
                 let source = passed.words(self.rt.alloc())?;
@@ -241,7 +226,7 @@ impl<'a, R: Files<File = File> + Net + Clock + AllocGlobal> Panel<'a, R> {
             Spoken::Intent(intent) => self.intent("show control", &intent),
             Spoken::Elsewhere => self.pass(Passed::Elsewhere),
             other => {
-                if !self.has_room() {
+                if !self.takes_finger() {
                     return Ok(());
                 }
                 let words = spoken_words(self.rt.alloc(), &other)?;
@@ -252,42 +237,33 @@ impl<'a, R: Files<File = File> + Net + Clock + AllocGlobal> Panel<'a, R> {
     }
 
     // Whether one press more is heard in this round.
-    fn has_room(&mut self) -> bool {
-        if self.count >= MAX_PRESSES {
+    fn takes_finger(&mut self) -> bool {
+        let has_room = self.hand.has_room();
+        if !has_room {
             self.flooded = self.flooded.saturating_add(1);
-            return false;
         }
-        self.count += 1;
-        true
+        self.hand = self.hand.counted();
+        has_room
     }
 
     // Somebody intends something, by this key.
     fn intent(&mut self, source: &str, intent: &Intent) -> Result<(), AllocError> {
-        if !self.settling.is_over() {
-            self.waited = self.waited.saturating_add(1);
-            return Ok(());
-        }
-        if !self.has_room() {
-            return Ok(());
-        }
-        if is_second_tap(intent, self.last_go, self.now) {
-            return self.line(format_args!(
+        let struck = self.hand.strikes(self.desk.view(), intent);
+        self.hand = self.hand.counted();
+        match struck {
+            Struck::Presses(press) => self.press(source, &press),
+            Struck::Refused(why) => self.refuse(source, intent, why),
+            Struck::Tap => self.line(format_args!(
                 "{source}: GO: a second tap within a second: nothing is sent"
-            ));
-        }
-        self.press_meant(source, intent)
-    }
-
-    // What an intent presses at this moment, or why it presses nothing.
-    fn meant(&self, intent: &Intent) -> Result<Press, Why> {
-        meaning(self.desk.view(), self.desk.awaits(), self.passed, intent)
-    }
-
-    // Presses what an intent means, or says why that is nothing.
-    fn press_meant(&mut self, source: &str, intent: &Intent) -> Result<(), AllocError> {
-        match self.meant(intent) {
-            Ok(press) => self.press(source, &press),
-            Err(why) => self.refuse(source, intent, why),
+            )),
+            Struck::Waited => {
+                self.waited = self.waited.saturating_add(1);
+                Ok(())
+            }
+            Struck::Flooded => {
+                self.flooded = self.flooded.saturating_add(1);
+                Ok(())
+            }
         }
     }
 
@@ -321,18 +297,16 @@ impl<'a, R: Files<File = File> + Net + Clock + AllocGlobal> Panel<'a, R> {
 
     // Notes a press that is sent.
     fn note(&mut self, button: Button, ask: u64, what: String) {
-        let passed = self.passed;
-        if let Button::Go(_, seq) = button {
-            self.last_go = Some(self.now);
-            self.passed = Some(newest_of(&self.desk.view().live).max(seq));
-        }
-        self.pending = Some(Pending {
+        let passed = self.hand.passed;
+        self.hand = self.hand.sent(self.desk.view(), button);
+        let newest = Pending {
             ask,
-            since: self.now,
+            since: self.hand.at,
             what,
             is_told: false,
             passed,
-        });
+        };
+        self.before = mem::replace(&mut self.pending, Some(newest));
     }
 
     // Says why a press was not sent.

@@ -1,122 +1,86 @@
-//! The file in which a desk keeps its alarms: what nobody has seen outlives the program, and a page that only shows
-//! knows what was seen elsewhere. It is replaced whole, and read by whoever may.
-use crate::plain::text_within;
-use cue_kept::{read, write};
-use cue_view::view::Kept;
-use std::alloc::AllocError;
-use std::fs::{self, File, Files, OpenOptions};
-use std::io::{self, ErrorKind, Write};
+//! The alarms that nobody has seen, as a text that outlives the program: a desk that is started again knows them, and
+//! so does each other one that reads there.
+ghost use Rattle.std.specs.Prelude.{IfOk, OnOk};
+ghost use Rattle.cue_desk_run.specs.Shelves.{Says, Stands};
+ghost use Rattle.cue_kept.specs.Alarms.{alarms_of};
+ghost use Rattle.cue_kept.specs.Text.{write};
 
-/// The most bytes of such a file: 64 failures of 104 devices each have less.
-const MAX_ALARMS: usize = 262_144;
+use crate::shelf::{FileShelf, Shelf};
+use cue_kept::{read, write};
+use cue_view::view::{Kept, Told};
+use std::alloc::{AllocError, Global};
+use std::fs::{File, Files};
+use std::io::{self, ErrorKind};
 
 /// Where the alarms of a desk are kept.
 #[derive(Clone, Copy)]
 pub enum AlarmsFile<'a> {
-    /// This desk keeps them there, and begins with what is there.
+    /// This desk keeps them there, and hears what others keep there.
     Own(&'a str),
-    /// Another desk keeps them there: they are read again and again.
+    /// Other desks keep them there: they are read again and again.
     OfAnother(&'a str),
 }
 
 impl<'a> AlarmsFile<'a> {
-    // Its path.
-    fn path(self) -> &'a str {
+    /// Its path.
+    pub(crate) fn path(self) -> &'a str {
         match self {
             AlarmsFile::Own(path) | AlarmsFile::OfAnother(path) => path,
         }
     }
 
-    // Whether this desk writes it.
-    fn is_own(self) -> bool {
+    /// Whether this desk writes it.
+    pub(crate) fn is_own(self) -> bool {
         matches!(self, AlarmsFile::Own(_))
     }
 }
 
-/// A file of alarms, and what it had when it was read or written last.
+/// The file of a desk.
 #[derive(Drop)]
-pub(crate) struct KeptAlarms<'a> {
-    file: AlarmsFile<'a>,
-    // The file that takes its place whole.
-    beside: String,
-    text: String,
+pub(crate) struct KeptAlarms<'a, R> {
+    pub(crate) shelf: FileShelf<'a, R>,
+    /// Whether this desk writes it.
+    pub(crate) is_own: bool,
 }
 
-// What the file has; nothing if it is not there.
-fn text_in<R: Files<File = File> + AllocGlobal>(rt: &R, path: &str) -> io::Result<String> {
-    match text_within(rt, path, MAX_ALARMS) {
-        Err(why) if why.kind() == ErrorKind::NotFound => Ok(String::new(rt.alloc())),
-        read => read,
+impl<'a, R: Files<File = File> + AllocGlobal> KeptAlarms<'a, R> {
+    /// The file, which is not read yet.
+    pub(crate) fn of(rt: &'a R, file: AlarmsFile<'a>) -> Result<KeptAlarms<'a, R>, AllocError> {
+        Ok(KeptAlarms {
+            shelf: FileShelf::of(rt, file.path())?,
+            is_own: file.is_own(),
+        })
     }
 }
 
-// What the text says; nothing if there is no text. Any other text is an error.
-fn kept_in<R: AllocGlobal>(rt: &R, text: &str) -> io::Result<Option<Kept>> {
+/// What is kept there; none if nothing stands there. Any other text is an error.
+pub(crate) fn kept_at<S: Shelf>(shelf: &mut S, alloc: Global) -> io::Result<Option<Kept>>
+    ensures { IfOk result (λ kept. Says kept (S.stood shelf.new)) }
+{
+    let text = shelf.text()?;
     if text.is_empty() {
         return Ok(None);
     }
-    match read(rt.alloc(), text)? {
+    match read(alloc, text.as_str())? {
         Some(kept) => Ok(Some(kept)),
         None => Err(io::Error::from(ErrorKind::InvalidData)),
     }
 }
 
-// Makes the file anew: a link or a pipe that stands there is removed, and never followed or opened.
-fn make<R: Files<File = File> + AllocGlobal>(rt: &R, path: &str, text: &str) -> io::Result<()> {
-    match fs::remove_file(rt, path) {
-        Ok(()) => {}
-        Err(why) if why.kind() == ErrorKind::NotFound => {}
-        Err(why) => return Err(why),
+/// Keeps this there, if it does not stand there already.
+pub(crate) fn keep_at<S: Shelf>(shelf: &mut S, alloc: Global, kept: &Kept) -> io::Result<()>
+    ensures { OnOk result (Stands (write (alarms_of kept.now)) (S.stood shelf.new)) }
+{
+    let text = write(alloc, kept)?;
+    match shelf.text() {
+        Ok(stands) if stands == text => Ok(()),
+        _ => shelf.replace(text.as_str()),
     }
-    let mut options = OpenOptions::new();
-    let _ = options.write(true);
-    let _ = options.create_new(true);
-    let mut file = options.open(rt, path)?;
-    file.write_all(text.as_bytes())
 }
 
-impl<'a> KeptAlarms<'a> {
-    /// The file, and what is kept there. A file that has anything else is an error: it is not written over.
-    pub(crate) fn open<R: Files<File = File> + AllocGlobal>(
-        rt: &R,
-        file: AlarmsFile<'a>,
-    ) -> io::Result<(KeptAlarms<'a>, Option<Kept>)> {
-        let path = file.path();
-        let beside = format!(in rt.alloc(); "{path}.new")?;
-        let text = text_in(rt, path)?;
-        let kept = kept_in(rt, text.as_str())?;
-        Ok((KeptAlarms { file, beside, text }, kept))
-    }
-
-    /// Whether this desk writes it.
-    pub(crate) fn is_own(&self) -> bool {
-        self.file.is_own()
-    }
-
-    /// What is kept there, if that is not what was there before. What cannot be read says nothing.
-    pub(crate) fn read<R: Files<File = File> + AllocGlobal>(&mut self, rt: &R) -> Option<Kept> {
-        let text = text_in(rt, self.file.path()).ok()?;
-        if text == self.text {
-            return None;
-        }
-        let kept = kept_in(rt, text.as_str()).ok().flatten()?;
-        self.text = text;
-        Some(kept)
-    }
-
-    /// Keeps this there, if it is not there already.
-    pub(crate) fn keep<R: Files<File = File> + AllocGlobal>(
-        &mut self,
-        rt: &R,
-        kept: &Kept,
-    ) -> io::Result<()> {
-        let text = write(rt.alloc(), kept)?;
-        if text == self.text {
-            return Ok(());
-        }
-        make(rt, self.beside.as_str(), text.as_str())?;
-        fs::rename(rt, self.beside.as_str(), self.file.path())?;
-        self.text = text;
-        Ok(())
-    }
+/// Whether the same devices failed in the same attempts.
+pub(crate) fn are_same(old: &[Told], new: &[Told]) -> bool {
+    old.len() == new.len()
+        && old.iter().zip(new.iter()).all(|(a, b)| a.seq == b.seq
+            && a.failed.as_slice() == b.failed.as_slice())
 }

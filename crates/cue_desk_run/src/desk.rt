@@ -1,6 +1,6 @@
 //! The desk at work: it hears the controller, the files and the relay, has the machine make a view of each thing that
 //! it heard, and sends what the machine says. Nothing here waits but `wait`.
-use crate::alarms::{AlarmsFile, KeptAlarms};
+use crate::alarms::{AlarmsFile, KeptAlarms, are_same, keep_at, kept_at};
 use crate::asks::Asks;
 use crate::clocks::{Beat, SteadyClock, wall_time};
 use crate::letters::letter_of;
@@ -10,10 +10,9 @@ use cue_asker::AskerName;
 use cue_core::State;
 use cue_show_file::Group;
 use cue_station::heard::{Heard, Input, Send};
-use cue_station::memory::Choice;
 use cue_station::station::{Station, Step};
 use cue_view::button::Button;
-use cue_view::view::{Alarm, View};
+use cue_view::view::{Kept, View};
 use mio::{Events, Poll, Registry};
 use std::fs::{File, Files};
 use std::net::Net;
@@ -27,7 +26,7 @@ const TICK: u64 = 50;
 const LOOK: u64 = 100;
 
 /// How many lie between two looks at what the relay writes.
-const RELAY: u64 = 500;
+const RELAY: u64 = 50;
 
 /// How many lie between two looks at the alarms that are kept in a file.
 const ALARMS: u64 = 500;
@@ -66,7 +65,9 @@ pub struct Desk<'a, R> {
     fault: Option<io::Error>,
     store: Store,
     relay: Option<&'a str>,
-    alarms: Option<KeptAlarms<'a>>,
+    alarms: Option<KeptAlarms<'a, R>>,
+    // Whether other failures are told of than those that were kept last.
+    has_changed: bool,
     // Whether the alarms could not be kept, and why, until that is told.
     has_lost: bool,
     loss: Option<io::Error>,
@@ -115,6 +116,7 @@ impl<'a, R: Files<File = File> + Net + Clock + AllocGlobal> Desk<'a, R> {
             store: Store::new(dir),
             relay: sources.relay,
             alarms: None,
+            has_changed: false,
             has_lost: false,
             loss: None,
             together: sources.together,
@@ -127,15 +129,13 @@ impl<'a, R: Files<File = File> + Net + Clock + AllocGlobal> Desk<'a, R> {
         Ok(desk)
     }
 
-    /// Keeps its alarms in this file from now on, or hears of those that another desk keeps there. A file that has
-    /// anything else is an error, and stays as it is.
+    /// Hears of the alarms that are kept in this file, and keeps its own there from now on, unless it is that of
+    /// another desk. A file that has anything else is an error, and stays as it is.
     pub fn keep_alarms(&mut self, file: AlarmsFile<'a>) -> io::Result<()> {
-        let (alarms, kept) = KeptAlarms::open(self.rt, file)?;
+        let mut alarms = KeptAlarms::of(self.rt, file)?;
+        let kept = kept_at(&mut alarms.shelf, self.rt.alloc())?;
         self.alarms = Some(alarms);
-        if let Some(kept) = kept {
-            let _ = self.hear(Heard::Kept(kept))?;
-        }
-        Ok(())
+        self.hear_kept(kept)
     }
 
     /// The newest view.
@@ -202,7 +202,8 @@ impl<'a, R: Files<File = File> + Net + Clock + AllocGlobal> Desk<'a, R> {
             return false;
         };
         let Step { view, send } = step;
-        drop(mem::replace(&mut self.view, view));
+        let old = mem::replace(&mut self.view, view);
+        self.has_changed = self.has_changed || !are_same(&old.failed, &self.view.failed);
         self.send(send);
         true
     }
@@ -264,27 +265,36 @@ impl<'a, R: Files<File = File> + Net + Clock + AllocGlobal> Desk<'a, R> {
         Ok(())
     }
 
-    // Hears of the alarms that another desk keeps.
-    fn hear_alarms(&mut self) -> io::Result<()> {
-        let kept = match &mut self.alarms {
-            Some(alarms) => alarms.read(self.rt),
-            None => None,
-        };
+    // Hears what is kept in a file, if there is something.
+    fn hear_kept(&mut self, kept: Option<Kept>) -> io::Result<()> {
         match kept {
             Some(kept) => self.hear(Heard::Kept(kept)).map(|_| ()),
             None => Ok(()),
         }
     }
 
-    // Keeps the alarms, if they are kept. If that fails, it is tried again.
+    // Hears of the alarms that desks keep there. What cannot be read says nothing.
+    fn hear_alarms(&mut self) -> io::Result<()> {
+        let kept = match &mut self.alarms {
+            Some(alarms) => kept_at(&mut alarms.shelf, self.rt.alloc()).ok().flatten(),
+            None => None,
+        };
+        self.hear_kept(kept)
+    }
+
+    // Keeps the alarms, if this desk does. If that fails, it is tried again.
     fn write_alarms(&mut self) {
+        self.has_changed = false;
         let Some(alarms) = &mut self.alarms else {
             return;
         };
+        if !alarms.is_own {
+            return;
+        }
         let Ok(kept) = self.station.kept(self.rt.alloc()) else {
             return;
         };
-        match alarms.keep(self.rt, &kept) {
+        match keep_at(&mut alarms.shelf, self.rt.alloc(), &kept) {
             Ok(()) => self.has_lost = false,
             Err(why) => {
                 if !self.has_lost {
@@ -295,21 +305,19 @@ impl<'a, R: Files<File = File> + Net + Clock + AllocGlobal> Desk<'a, R> {
         }
     }
 
-    // Looks at the file of the alarms.
+    // Keeps the alarms as soon as there are others, and looks twice a second at what other desks keep.
     fn look_at_alarms(&mut self) -> io::Result<()> {
+        if self.alarms.is_none() {
+            return Ok(());
+        }
         let now = self.now()?;
-        let is_own = match &self.alarms {
-            Some(alarms) => alarms.is_own(),
-            None => return Ok(()),
-        };
-        if !self.keeps.is_due(now) {
+        if self.keeps.is_due(now) {
+            self.hear_alarms()?;
+        } else if !self.has_changed {
             return Ok(());
         }
-        if is_own {
-            self.write_alarms();
-            return Ok(());
-        }
-        self.hear_alarms()
+        self.write_alarms();
+        Ok(())
     }
 
     /// Why the alarms could not be kept, once, if they could not be since.
@@ -339,30 +347,5 @@ impl<'a, R: Files<File = File> + Net + Clock + AllocGlobal> Desk<'a, R> {
     pub fn wait(&mut self, most: u64) -> io::Result<()> {
         self.poll
             .poll(&mut self.events, Some(Duration::from_millis(most)))
-    }
-
-    /// Whether the attempt of the last STANDBY is not shown yet: it is chosen as soon as it is.
-    pub fn awaits(&self) -> bool {
-        matches!(self.station.notes.choice, Choice::Awaited(_, _))
-    }
-
-    /// Whether the status that was answered last is not of the store that was read last, as for a moment after each
-    /// change.
-    pub fn differs(&self) -> bool {
-        self.station.notes.differs.is_some()
-    }
-
-    /// Whether the store was read or cannot be, and a status was answered or nobody listens.
-    pub fn is_complete(&self) -> bool {
-        let view = &self.view;
-        let is_unread = view
-            .alarms
-            .iter()
-            .any(|alarm| matches!(alarm, Alarm::Unread(_)));
-        let is_alone = view
-            .alarms
-            .iter()
-            .any(|alarm| *alarm == Alarm::NobodyListens);
-        (view.read.is_some() || is_unread) && (view.served.is_some() || is_alone)
     }
 }

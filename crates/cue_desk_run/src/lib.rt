@@ -21,7 +21,7 @@
 //!   listens. At most three are open: the newest question for the status and two presses.
 //! - A press may carry a name: its socket sends `/as/NAME` first, once, and then the message. The controller refuses
 //!   the name, which puts it into the log; that reply has another address than the press, and so is none to it. A
-//!   question for the status carries none: it would put a line into the log each second.
+//!   question for the status carries none: it would put a line into the log ten times a second.
 //! - A copy of the store is read whole, and taken apart only if its bytes are not those of the last copy. The store is
 //!   read again only if its files may have changed (`stamps` of `cue_desk`). The board does not ask for the lock, so it
 //!   is never in the way of a `serve`. It does not look at the generations of the areas instead: a record that is added
@@ -45,6 +45,7 @@ mod orders;
 mod plain;
 mod reading;
 mod relay;
+mod shelf;
 mod stamps;
 
 pub use addresses::local;

@@ -6,6 +6,7 @@ use Rattle.serde_json.specs.Data.{no_members, put}
 use Rattle.serde_json.specs.View.{items_of, view}
 use Rattle.cue_show_file.specs.declared.together.Group.{Group}
 use Rattle.cue_view.specs.declared.view.View.{View}
+use Rattle.cue_view.specs.Late.{relay_late, serve_late}
 use Rattle.cue_request.specs.Lit.{button_data}
 use Rattle.cue_page.specs.Alarms.{alarm_data}
 use Rattle.cue_page.specs.Buttons.{is_move, is_other}
@@ -23,6 +24,17 @@ use Rattle.cue_page.specs.declared.board.SecondHalf.{SecondHalf}
 abbrev pub age_data : ℕ → Option ℕ → Data
 age_data at None = null
 age_data at (Some moment) = number (unsigned (at - moment))
+
+-- for how long something is silent; null if it is not late
+abbrev pub silent_data : Option ℕ → Data
+silent_data None = null
+silent_data (Some silent) = number (unsigned silent)
+
+-- which of controller and relay is late
+abbrev pub late_data : View → Data
+late_data v =
+    object (member (codes "relay") (silent_data (relay_late v))
+    (member (codes "serve") (silent_data (serve_late v)) no_members))
 
 -- the attempt that GO and CANCEL are for
 abbrev pub chosen_data : Option ℕ → Data
@@ -43,6 +55,7 @@ view_data port groups v =
     (member (codes "chosen") (chosen_data v.chosen)
     (member (codes "failed") (array (items_of (map told_data v.failed.items)))
     (member (codes "last") (told_or_null v.last)
+    (member (codes "late") (late_data v)
     (member (codes "lit") (array (items_of (map button_data (filter is_other v.lit.items))))
     (member (codes "live") (array (items_of (map (attempt_data v.at) v.live.items)))
     (member (codes "moves") (boolean (list_any is_move v.lit.items))
@@ -54,7 +67,7 @@ view_data port groups v =
     (member (codes "said") (said_data port v.said)
     (member (codes "served") (age_data v.at v.served)
     (member (codes "stack") (array (items_of (map number_data v.stack.items)))
-    (member (codes "unsent") (unsent_data v.unsent) no_members))))))))))))))))))
+    (member (codes "unsent") (unsent_data v.unsent) no_members)))))))))))))))))))
 
 -- the first half of the parts, each by its name, and more members after them
 abbrev pub first_members : FirstHalf → Members → Members
@@ -65,11 +78,12 @@ first_members p more =
     (member (codes "chosen") (view p.chosen)
     (member (codes "failed") (view p.failed)
     (member (codes "last") (view p.last)
+    (member (codes "late") (view p.late)
     (member (codes "lit") (view p.lit)
     (member (codes "live") (view p.live)
     (member (codes "moves") (boolean p.moves)
     (member (codes "network") (view p.network)
-    (member (codes "next") (view p.next) more))))))))))
+    (member (codes "next") (view p.next) more)))))))))))
 
 -- the second half
 abbrev pub second_members : SecondHalf → Members

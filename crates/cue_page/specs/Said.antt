@@ -39,4 +39,5 @@ unsent_kind _ = codes "refused"
 abbrev pub unsent_data : Option Unsent → Data
 unsent_data None = null
 unsent_data (Some u) =
-    object (member (codes "kind") (string (unsent_kind u)) (member (codes "words") (string (unsent_words u)) no_members))
+    object (member (codes "kind") (string (unsent_kind u))
+    (member (codes "words") (string (unsent_words u)) no_members))

@@ -39,6 +39,27 @@ fn age_value(at: u64, moment: Option<u64>) -> Value
     }
 }
 
+// For how long something is silent; null if it is not late.
+fn silent_value(late: Option<u64>) -> Value
+    ensures { view result ≡ page.silent_data late }
+{
+    match late {
+        Some(silent) => Value::from(silent),
+        None => Value::Null,
+    }
+}
+
+// Which of controller and relay is late.
+fn late_value(alloc: Global, shown: &View) -> Result<Value, AllocError>
+    ensures { IfOk result (λ v. view v ≡ page.late_data shown.now) }
+{
+    let (relay, serve) = (
+        silent_value(shown.relay_late()),
+        silent_value(shown.serve_late()),
+    );
+    json!(in alloc; { "relay": relay, "serve": serve })
+}
+
 // The attempt that is chosen; null if none is.
 fn chosen_value(chosen: Option<u32>) -> Value
     ensures { view result ≡ page.chosen_data chosen }
@@ -68,6 +89,7 @@ struct FirstHalf {
     chosen: Value,
     failed: Value,
     last: Value,
+    late: Value,
     lit: Value,
     live: Value,
     moves: bool,
@@ -98,6 +120,7 @@ fn first_members(alloc: Global, half: FirstHalf) -> Result<Map<String, Value>, A
         chosen,
         failed,
         last,
+        late,
         lit,
         live,
         moves,
@@ -111,6 +134,7 @@ fn first_members(alloc: Global, half: FirstHalf) -> Result<Map<String, Value>, A
     put(&mut map, alloc, "chosen", chosen)?;
     put(&mut map, alloc, "failed", failed)?;
     put(&mut map, alloc, "last", last)?;
+    put(&mut map, alloc, "late", late)?;
     put(&mut map, alloc, "lit", lit)?;
     put(&mut map, alloc, "live", live)?;
     put(&mut map, alloc, "moves", Value::Bool(moves))?;
@@ -176,6 +200,7 @@ fn parts_of(alloc: Global, shown: &View, port: u16, groups: &[Group]) -> Result<
         chosen: chosen_value(shown.chosen),
         failed: past_value(alloc, &shown.failed)?,
         last: told_or_null(alloc, shown.last.as_ref())?,
+        late: late_value(alloc, shown)?,
         lit: others_value(alloc, &shown.lit)?,
         live: live_value(alloc, &shown.live, at)?,
         moves: has_moves(&shown.lit),

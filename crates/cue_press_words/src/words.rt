@@ -241,7 +241,7 @@ pub fn why_words(
             let each = each_attempt(alloc, view, None)?;
             let each = each.as_str();
             format!(in alloc;
-                "{each}, but it stood by before the last GO: name it, as `cuedesk go 12`"
+                "{each}, but it stood by before the last GO: give it by its number, as `cuedesk go 12`"
             )
         }
         Why::Awaited => String::from_str(

@@ -1,3 +1,4 @@
+pub mod HandLemmas
 pub mod PedalLemmas
 pub mod RaceLemmas
 pub mod SettlingLemmas

@@ -46,9 +46,9 @@ sole-one (a ∷ others) seq cue e =
     by one false s h z = rw (one (h ∙ z)) refl
 
 pub go-is_no_race : GoIsNoRace
-go-is_no_race v is_awaited passed press chosen e =
-    let alone : go_alone None is_awaited passed v.live.items ≡ Ok press = rw chosen at e in
-    by is_awaited (sole_of wanted.Preparing v.live.items) refl alone
+go-is_no_race v passed press chosen e =
+    let alone : go_alone None v.awaits passed v.live.items ≡ Ok press = rw chosen at e in
+    by v.awaits (sole_of wanted.Preparing v.live.items) refl alone
   where
     by : (w : Bool) (s : Sole) → sole_of wanted.Preparing v.live.items ≡ s
         → (if w then Err why.Awaited else go_sole passed s v.live.items) ≡ Ok press

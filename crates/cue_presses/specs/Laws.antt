@@ -54,8 +54,8 @@ PressedAfterLetGo =
 -- first decides nothing.
 abbrev pub GoIsNoRace : Type 0
 GoIsNoRace =
-    (v : View) (is_awaited : Bool) (passed : Option ℕ) (press : Press) → v.chosen ≡ None
-    → meaning v is_awaited passed (intent.Go None) ≡ Ok press
+    (v : View) (passed : Option ℕ) (press : Press) → v.chosen ≡ None
+    → meaning v passed (intent.Go None) ≡ Ok press
     → count_by (λ a. is_preparing a.stage) v.live.items ≡ 1
 
 -- ---- what waited

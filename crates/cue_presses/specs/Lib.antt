@@ -1,4 +1,5 @@
 pub mod Address
+pub mod Hand
 pub mod Keys
 pub mod Laws
 pub mod Meaning

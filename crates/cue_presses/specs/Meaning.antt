@@ -1,5 +1,6 @@
 -- Which buttons of a view an intent presses.
-use Rattle.std.specs.Prelude.{ℕ, Bool, true, false, not, ◌&&◌, ◌||◌, if◌then◌else◌, List, [], ◌∷◌, Option, None, Some, nat_eq}
+use Rattle.std.specs.Prelude.{ℕ, Bool, true, false, not, ◌&&◌, ◌||◌, if◌then◌else◌, List, [], ◌∷◌, Option, None, Some}
+use Rattle.std.specs.Prelude.{nat_eq}
 use Rattle.std.specs.Prelude.{max, nat_le}
 use Rattle.std.specs.Prelude.{Result, Ok, Err}
 use Rattle.std.specs.List.{list_any}
@@ -79,7 +80,8 @@ was_passed seq live = list_any (λ a. nat_eq a.seq seq && a.passed) live
 abbrev pub go_sole : Option ℕ → Sole → List LiveAttempt → Result Press Why
 go_sole passed sole.Nobody live = Err why.Nobody
 go_sole passed (sole.One seq cue) live =
-    if is_passed passed seq || was_passed seq live then Err why.Passed else go_of None (chosen_of wanted.Ready seq live) why.Nobody
+    if is_passed passed seq || was_passed seq live then Err why.Passed
+    else go_of None (chosen_of wanted.Ready seq live) why.Nobody
 go_sole passed sole.Many live = Err why.Many
 
 -- GO that names no cue: of the attempt that is chosen, and of no other; if none is chosen, of the only one that stands
@@ -124,12 +126,12 @@ standby_by next.Unknown live named = Err why.NoNext
 -- ---- all of them
 
 -- what an intent presses; GO that names a cue is of the only attempt at that cue that is ready
-abbrev pub meaning : View → Bool → Option ℕ → Intent → Result Press Why
-meaning v is_awaited passed (intent.Standby named) = standby_by v.next v.live.items named
-meaning v is_awaited passed (intent.Go None) = go_alone v.chosen is_awaited passed v.live.items
-meaning v is_awaited passed (intent.Go (Some cue)) =
+abbrev pub meaning : View → Option ℕ → Intent → Result Press Why
+meaning v passed (intent.Standby named) = standby_by v.next v.live.items named
+meaning v passed (intent.Go None) = go_alone v.chosen v.awaits passed v.live.items
+meaning v passed (intent.Go (Some cue)) =
     go_of v.chosen (sole_of (wanted.ReadyAt cue) v.live.items) why.NotThis
-meaning v is_awaited passed intent.Cancel = cancel_alone v.chosen is_awaited v.live.items
+meaning v passed intent.Cancel = cancel_alone v.chosen v.awaits v.live.items
 
 -- ---- the last GO of this desk
 

@@ -25,6 +25,7 @@
 #![tactic(auto)]
 
 pub mod address;
+pub mod hand;
 pub mod intent;
 pub mod keys;
 pub mod laws;
@@ -34,6 +35,7 @@ pub mod tally;
 pub mod taps;
 
 pub use address::{Address, Spoken, spoken_to};
+pub use hand::{FINGERS, Hand, Struck};
 pub use intent::Intent;
 pub use keys::{Key, Keys, Pedal, Pedals, intent_of, is_first_of_keys, is_of_keys, pedals_after};
 pub use pressing::{Press, Why, is_hopeless, is_lit, meaning, newest_of};

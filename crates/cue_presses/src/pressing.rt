@@ -182,10 +182,10 @@ fn go_sole(passed: Option<u32>, sole: Sole, live: &[LiveAttempt]) -> Result<Pres
 }
 
 // GO that names no cue: of the chosen attempt, else of the only one that stands by.
-fn go_alone(view: &View, is_awaited: bool, passed: Option<u32>) -> Result<Press, Why>
-    ensures { result ≡ rule.go_alone view.now.chosen is_awaited passed view.now.live.items }
+fn go_alone(view: &View, passed: Option<u32>) -> Result<Press, Why>
+    ensures { result ≡ rule.go_alone view.now.chosen view.now.awaits passed view.now.live.items }
 {
-    if is_awaited {
+    if view.awaits {
         return Err(Why::Awaited);
     }
     match view.chosen {
@@ -199,11 +199,11 @@ fn go_alone(view: &View, is_awaited: bool, passed: Option<u32>) -> Result<Press,
 }
 
 // CANCEL: of the chosen attempt, else of the only one that prepares.
-fn cancel_alone(view: &View, is_awaited: bool) -> Result<Press, Why>
-    ensures { result ≡ rule.cancel_alone view.now.chosen is_awaited view.now.live.items }
+fn cancel_alone(view: &View) -> Result<Press, Why>
+    ensures { result ≡ rule.cancel_alone view.now.chosen view.now.awaits view.now.live.items }
 {
     let wanted = Wanted::Preparing;
-    if is_awaited {
+    if view.awaits {
         return Err(Why::Awaited);
     }
     match view.chosen {
@@ -262,15 +262,10 @@ fn standby_by(view: &View, named: &Option<CueNo>) -> Result<Press, Why>
     }
 }
 
-/// What an intent presses, by this view; else why nothing. `is_awaited`: a STANDBY of this desk awaits its attempt.
-/// `passed`: the newest attempt that was live when this desk gave its last cue (`newest_of`), if it gave one.
-pub fn meaning(
-    view: &View,
-    is_awaited: bool,
-    passed: Option<u32>,
-    intent: &Intent,
-) -> Result<Press, Why>
-    ensures { result ≡ rule.meaning view.now is_awaited passed intent.now }
+/// What an intent presses, by this view; else why nothing. `passed`: the newest attempt that was live when this desk
+/// gave its last cue (`newest_of`), if it gave one.
+pub fn meaning(view: &View, passed: Option<u32>, intent: &Intent) -> Result<Press, Why>
+    ensures { result ≡ rule.meaning view.now passed intent.now }
 {
     match intent {
         Intent::Standby(named) => standby_by(view, named),
@@ -278,8 +273,8 @@ pub fn meaning(
             let sole = sole_of(&Wanted::ReadyAt(*cue), &view.live);
             go_of(view.chosen, sole, Why::NotThis)
         }
-        Intent::Go(None) => go_alone(view, is_awaited, passed),
-        Intent::Cancel => cancel_alone(view, is_awaited),
+        Intent::Go(None) => go_alone(view, passed),
+        Intent::Cancel => cancel_alone(view),
     }
 }
 

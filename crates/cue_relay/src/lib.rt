@@ -24,8 +24,8 @@
 //!   a silence. An answer for another number is a sign of life and settles nothing.
 //! - No queue: a datagram that cannot be sent at once is lost, as on any network, and the controller repeats. A queue
 //!   would deliver orders late.
-//! - The status is a file that is replaced whole, once a second: whoever only looks needs no permission to speak to the
-//!   relay, and a relay that has stopped shows by the age of its file.
+//! - The status is a file that is replaced whole, ten times a second: whoever only looks needs no permission to speak
+//!   to the relay, and a relay that has stopped shows by the age of its file.
 //! - `Source` and `Wire` are not the controller's: a sender there is a port of this machine, and here an opening and an
 //!   address. Only the faults, and how a list of answers is used up, are the same.
 //! - Only IPv4, as four numbers: a name would be looked up by a service that may be slow or wrong in the middle of an

@@ -7,8 +7,8 @@ use std::alloc::{AllocError, Global};
 use std::fs::{self, File, Files, OpenOptions};
 use std::io::{self, Eprint, ErrorKind, Write};
 
-/// The time between two statuses, in milliseconds.
-const STATUS_PAUSE: u64 = 1_000;
+/// The time between two statuses, in milliseconds: a desk says after a quarter of a second that nothing new came.
+const STATUS_PAUSE: u64 = 100;
 
 /// The time between two lines on what was dropped, in milliseconds.
 const DROPPED_PAUSE: u64 = 10_000;
@@ -149,7 +149,7 @@ impl<'a, R: Files<File = File> + Eprint + AllocGlobal, W: Write> Reporter<'a, R,
         }
     }
 
-    // Writes the status, if a second has passed since it was written.
+    // Writes the status, if a tenth of a second has passed since it was written.
     fn write_status(&mut self, now: u64, counts: Counts) {
         let Some(file) = &mut self.status else {
             return;

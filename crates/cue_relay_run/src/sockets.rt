@@ -16,7 +16,7 @@ use std::net::{IpAddr, Ipv4Addr, Net, SocketAddr};
 use std::time::{Clock, Duration};
 
 /// The time between two ticks, in milliseconds.
-const TICK: u64 = 250;
+const TICK: u64 = 100;
 
 /// How many datagrams are read before it is looked again which sockets have some.
 const BATCH: u32 = 64;
@@ -107,7 +107,7 @@ fn now_of<C: Clock>(clock: &C) -> io::Result<u64> {
     }
 }
 
-/// The datagrams of the sockets, and a tick four times a second. It reports nothing of what it gave.
+/// The datagrams of the sockets, and a tick ten times a second. It reports nothing of what it gave.
 #[derive(Drop)]
 pub struct NetSource<'a, C: Clock> {
     clock: &'a C,
@@ -173,9 +173,18 @@ impl<'a, C: Clock> NetSource<'a, C> {
         true
     }
 
+    // How long it may wait, in milliseconds: until the next tick is due, and not at all if a socket waits already.
+    fn patience(&self, now: u64) -> u64 {
+        if self.ready.is_empty() {
+            TICK.saturating_sub(now.saturating_sub(self.last_tick))
+        } else {
+            0
+        }
+    }
+
     // Waits until a socket has something to read, or looks which ones have if some wait already.
-    fn look(&mut self) -> io::Result<()> {
-        let wait = if self.ready.is_empty() { TICK } else { 0 };
+    fn look(&mut self, now: u64) -> io::Result<()> {
+        let wait = self.patience(now);
         self.poll
             .poll(&mut self.events, Some(Duration::from_millis(wait)))?;
         for event in self.events.iter() {
@@ -229,7 +238,7 @@ impl<'a, C: Clock> NetSource<'a, C> {
             return Ok(Try::Brings(Turn::Tick { now }));
         }
         if self.left == 0 {
-            self.look()?;
+            self.look(now)?;
             return Ok(Try::Passes);
         }
         self.left -= 1;

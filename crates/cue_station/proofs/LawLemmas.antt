@@ -33,14 +33,14 @@ use Rattle.cue_station.specs.Alarms.{alarms_by, asked_at, differs_since}
 use Rattle.cue_station.specs.Alarms.{is_over_by, is_put_back, nobody_of, put_back_in}
 use Rattle.cue_station.specs.Alarms.{read_at, stands_by, trouble_of}
 use Rattle.cue_station.specs.Asking.{is_press_sent, is_tap, newest_of, presses_of, said_by, unshown_by}
-use Rattle.cue_station.specs.Choosing.{chosen_number}
+use Rattle.cue_station.specs.Choosing.{chosen_number, is_awaited}
 use Rattle.cue_station.specs.Drawing.{ShowsReading, alarms_of, facts_of, live_by}
 use Rattle.cue_station.specs.Keeping.{numbers_of, shown_failures}
 use Rattle.cue_station.specs.Laws.{Keeps, LitIsSo, PressIsSo, StatusIsAsked}
 use Rattle.cue_station.specs.Lighting.{may, may_by}
 use Rattle.cue_station.specs.Memory.{IsAfter, IsKept, turn_of}
 use Rattle.cue_station.specs.Moving.{back_by, place_by}
-use Rattle.cue_station.specs.Network.{network_by, relayed_of, relayed_with}
+use Rattle.cue_station.specs.Network.{network_by, relayed_of, relayed_with, stamped_at}
 use Rattle.cue_station.specs.Noting.{footing_by, order_by, send_by}
 use Rattle.cue_station.specs.Offering.{is_offered, is_recent, kept_of}
 use Rattle.cue_station.specs.Pacing.{is_overdue}
@@ -49,7 +49,7 @@ use Rattle.cue_station.specs.Reading.{answered_of, reading_of, seen_since}
 use Rattle.cue_station.specs.Showing.{given_in, given_since, is_in_time, is_passed, left_of, shown_live, since_in}
 use Rattle.cue_station.specs.Stepping.{Makes, is_heeded_by, kept_with, noted_now, reading_now, refusal_now}
 use Rattle.cue_station.specs.Stepping.{unsent_now}
-use Rattle.cue_station.specs.Viewing.{alarms_in, facts_by, stamped_at}
+use Rattle.cue_station.specs.Viewing.{alarms_in, facts_by}
 use Rattle.cue_station.proofs.AfterLemmas.{heeded-kept, may-kept, step-after}
 use Rattle.cue_station.proofs.FailureLemmas.{seen-lit}
 use Rattle.cue_station.proofs.LitLemmas.{lights-dark, lights-lit, lights-moves, shows_stack}
@@ -297,6 +297,7 @@ step-keeps past s i m k makes =
         made = makes.view.at;
         read = makes.view.read ∙ ap read_at after.reading;
         served = makes.view.served ∙ ap asked_at after.answered;
+        stamped = makes.view.stamped ∙ ap stamped_at after.relay;
       };
       copy = subst
           (λ o. ShowsReading (stands_by i.at (answered_of turns) (reading_of turns)) (λ q. seen_since q turns)
@@ -306,6 +307,10 @@ step-keeps past s i m k makes =
           (since_in m.seen.items) (λ q. seen_since q turns) (given_in m.seen.items) (λ q. given_since q turns)
           after.since after.given i.at i.wall m.step.view r makes.view.copy);
       chosen = makes.view.chosen ∙ ap chosen_number after.choice;
+      unsettled = record {
+        awaits = makes.view.awaits ∙ ap is_awaited after.choice;
+        differs = makes.view.differs ∙ ap is_some after.differs;
+      };
       back = makes.view.back ∙ ap₂ (λ v o. back_by v (place_by o)) after.moved after.reading;
       alarm = makes.view.alarms
           ∙ alarms-kept turns m.notes r relay m.seen.items m.failed.items (kept_with m.shown s.views.items) after i.at

@@ -1,4 +1,4 @@
--- A second after a question the next one is due.
+-- Half a second after a question the next one is due.
 use Rattle.std.proofs.Common.{◌≡◌, refl, ℕ, Bool, true, false, ◌+◌, ◌&&◌, Option, None, Some, IsTrue, is_some, nat_le}
 use Rattle.std.proofs.Common.{arith, nat_lt}
 use Rattle.std.proofs.lemmas.Bool.Decides.{nat_tests}
@@ -7,16 +7,17 @@ use Rattle.cue_desk.specs.declared.orders.DeskCommand.{DeskCommand}
 use Rattle.cue_station.specs.declared.memory.Notes.{Notes}
 use Rattle.cue_station.specs.declared.memory.Pace.{Pace}
 use Rattle.cue_station.specs.declared.memory.Question.{Question}
-use Rattle.cue_station.specs.declared.pacing.TheConstants.{ASK_MS}
+use Rattle.cue_station.specs.declared.limits.TheConstants.{ASK_AGAIN_MS}
 use Rattle.cue_station.specs.Noting.{send_by}
 use Rattle.cue_station.specs.Pacing.{is_at_once, is_due, is_due_after, is_overdue, wait_by}
 
-sooner : (at now : ℕ) → IsTrue (nat_le (at + 1000) now) → IsTrue (nat_le (at + 500) now)
+sooner : (at now : ℕ) → IsTrue (nat_le (at + 500) now) → IsTrue (nat_le (at + 100) now)
 sooner at now h = grind (arith, nat_tests)
 
-waited : (at now : ℕ) (answered : Bool) → IsTrue (nat_le (at + ASK_MS) now) → IsTrue (nat_le (at + wait_by answered) now)
-waited at now true h = h
-waited at now false h = sooner at now h
+waited : (at now : ℕ) (answered : Bool) → IsTrue (nat_le (at + ASK_AGAIN_MS) now)
+    → IsTrue (nat_le (at + wait_by answered) now)
+waited at now true h = sooner at now h
+waited at now false h = h
 
 overdue_after : (o : Option Question) (n : Notes) (p : Pace) (now : ℕ) → IsTrue (is_overdue o now)
     → is_due_after o n p now ≡ true

@@ -1,5 +1,6 @@
 -- What is wrong, the loudest first.
-use Rattle.std.specs.Prelude.{◌+◌, ◌%◌, replicate, slice_set, ℕ, pos, Bool, true, false, not, ◌&&◌, if◌then◌else◌, List, [], ◌∷◌, ◌++◌}
+use Rattle.std.specs.Prelude.{◌+◌, ◌%◌, replicate, slice_set, ℕ, pos, Bool, true, false, not, ◌&&◌, if◌then◌else◌}
+use Rattle.std.specs.Prelude.{List, [], ◌∷◌, ◌++◌}
 use Rattle.std.specs.Prelude.{map, filter, length, Option, None, Some, nat_eq, nat_le, nat_lt}
 use Rattle.std.specs.List.{list_any}
 use Rattle.std.specs.Option.{option_eq, option_map, option_to_list}
@@ -109,8 +110,8 @@ differs_since [] = None
 differs_since (t ∷ past) =
     lasting (differs_by t.input.at (answered_of (t ∷ past)) (reading_of (t ∷ past))) t.input.at (differs_since past)
 
--- The attempts that were seen, each at a place of its own: of numbers that are 64 apart the one that was seen last. 0 is
--- the number of none.
+-- The attempts that were seen, each at a place of its own: of numbers that are 64 apart the one that was seen last. 0
+-- is the number of none.
 abbrev pub nothing_seen : List ℕ
 nothing_seen = replicate KEPT_SEEN 0
 

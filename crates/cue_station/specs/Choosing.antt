@@ -1,5 +1,5 @@
 -- Which attempt GO and CANCEL are for.
-use Rattle.std.specs.Prelude.{ℕ, pos, Bool, false, ◌&&◌, if◌then◌else◌, List, [], ◌∷◌, Option, None, Some, nat_eq}
+use Rattle.std.specs.Prelude.{ℕ, pos, Bool, true, false, ◌&&◌, if◌then◌else◌, List, [], ◌∷◌, Option, None, Some, nat_eq}
 use Rattle.std.specs.Prelude.{int_lt}
 use Rattle.cue_exchange.specs.Live.{attempt_of_cue}
 use Rattle.cue_exchange.specs.declared.attempt.Attempt.{Attempt}
@@ -21,6 +21,12 @@ use Rattle.cue_station.specs.Turns.{Turn}
 use Rattle.cue_station.specs.Asking.{heard_presses, is_open_ask, presses_of}
 use Rattle.cue_station.specs.Offering.{is_offered, kept_of}
 use Rattle.cue_station.specs.Reading.{reading_of}
+
+-- what will come of a STANDBY of ours is not known yet
+abbrev pub is_awaited : Choice → Bool
+is_awaited (choice.Awaited n c) = true
+is_awaited choice.Nothing = false
+is_awaited (choice.Attempt q) = false
 
 -- the attempt at the cue, once the copy has one; if the copy of after the answer has none, nothing comes of it
 abbrev pub found_by : Option Attempt → Bool → Choice → Choice

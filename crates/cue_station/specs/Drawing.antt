@@ -1,11 +1,9 @@
 -- What is drawn, turn by turn: of the newest copy, of the relay, and what is wrong.
 use Rattle.std.specs.Prelude.{◌≡◌, ℕ, Bool, List, [], Option, None, Some}
-use Rattle.std.specs.Option.{option_map}
 use Rattle.cue_exchange.specs.declared.attempt.Attempt.{Attempt}
 use Rattle.cue_station.specs.declared.alarms.Facts.{Facts}
 use Rattle.cue_station.specs.declared.heard.Copied.{Copied}
 use Rattle.cue_station.specs.declared.memory.Reading.{Reading}
-use Rattle.cue_station.specs.declared.memory.Relayed.{Relayed}
 use Rattle.cue_view.specs.declared.view.Alarm.{Alarm}
 use Rattle.cue_view.specs.declared.view.Next.TheVariants as next
 use Rattle.cue_view.specs.declared.view.Told.{Told}
@@ -17,7 +15,7 @@ use Rattle.cue_station.specs.Alarms.{put_back_in, read_at, trouble_of}
 use Rattle.cue_station.specs.Asking.{unshown_of}
 use Rattle.cue_station.specs.Following.{next_in}
 use Rattle.cue_station.specs.Keeping.{failed_of, numbers_of, shown_failures}
-use Rattle.cue_station.specs.Network.{network_by, relayed_of}
+use Rattle.cue_station.specs.Network.{network_by, relayed_of, stamped_at}
 use Rattle.cue_station.specs.Showing.{shown_live, stack_of}
 use Rattle.cue_station.specs.Telling.{last_in, past_in}
 
@@ -58,7 +56,7 @@ facts_of turns now =
       asked = asked_at (answered_of turns);
       nobody = nobody_of turns;
       differs = differs_since turns;
-      stamped = option_map (λ (r : Relayed). r.since) (relayed_of turns);
+      stamped = stamped_at (relayed_of turns);
       read = read_at (reading_of turns);
       trouble = trouble_of turns;
       unshown = unshown_of turns;

@@ -1,5 +1,6 @@
 -- What is kept of what went wrong, until somebody says that it was seen.
-use Rattle.std.specs.Prelude.{ℕ, Bool, true, false, not, ◌&&◌, ◌||◌, if◌then◌else◌, List, [], ◌∷◌, ◌++◌, take, filter, map}
+use Rattle.std.specs.Prelude.{ℕ, Bool, true, false, not, ◌&&◌, ◌||◌, if◌then◌else◌, List, [], ◌∷◌, ◌++◌, take, filter}
+use Rattle.std.specs.Prelude.{map}
 use Rattle.std.specs.Prelude.{Option, None, Some, is_some, nat_eq, nat_le}
 use Rattle.std.specs.List.{flat_map, list_any}
 use Rattle.std.specs.Option.{option_to_list}
@@ -101,8 +102,8 @@ has_number q all = list_any (λ (t : Told). nat_eq q t.seq) all
 abbrev pub knows : ℕ → Told → Bool
 knows q t = nat_eq q t.seq && is_some t.cue
 
--- Nobody has said that he saw it, and its cue is known, or nothing is kept of it yet: a copy that no longer knows the cue
--- never replaces what is kept.
+-- Nobody has said that he saw it, and its cue is known, or nothing is kept of it yet: a copy that no longer knows the
+-- cue never replaces what is kept.
 unfoldable pub is_fresh : List ℕ → List Told → Told → Bool
 is_fresh seen kept t = not (is_acknowledged seen t.seq) && (is_some t.cue || not (has_number t.seq kept))
 

@@ -2,9 +2,9 @@
 --
 -- What it cannot say: what another operator does between the copy and the moment at which the controller judges a
 -- message; which attempt that is then, since `go` names a cue and no number; and which program holds the port. What it
--- does not say: that the status is asked sooner than after a second; and that more than 64 failures are kept that the
+-- does not say: that the status is asked sooner than after half a second; and that more than 64 failures are kept that the
 -- newest copy no longer tells of: those that were told first go first.
-use Rattle.std.specs.Prelude.{◌≡◌, ℕ, Bool, true, false, List, [], ◌∷◌, Some, IsSome, IsTrue, ◌⊎◌, length}
+use Rattle.std.specs.Prelude.{◌≡◌, ℕ, Bool, true, false, List, [], ◌∷◌, Some, IsSome, IsTrue, is_some, ◌⊎◌, length}
 use Rattle.std.specs.List.{list_any}
 use Rattle.cue_desk.specs.declared.orders.DeskCommand.TheVariants as order
 use Rattle.cue_view.specs.declared.button.Button.{Button}
@@ -13,12 +13,12 @@ use Rattle.cue_station.specs.declared.heard.Heard.TheVariants.{Pressed}
 use Rattle.cue_station.specs.declared.heard.Send.{Send}
 use Rattle.cue_station.specs.Turns.{Turn}
 use Rattle.cue_station.specs.Reading.{reading_of, answered_of, question_of, seen_since}
-use Rattle.cue_station.specs.Alarms.{asked_at, read_at, stands_by}
+use Rattle.cue_station.specs.Alarms.{asked_at, differs_since, read_at, stands_by}
 use Rattle.cue_station.specs.Asking.{is_press_sent, said_before, said_of}
-use Rattle.cue_station.specs.Choosing.{chosen_of, chosen_number}
+use Rattle.cue_station.specs.Choosing.{chosen_of, chosen_number, is_awaited}
 use Rattle.cue_station.specs.Drawing.{ShowsReading, alarms_of, failures_shown}
 use Rattle.cue_station.specs.Lighting.{may}
-use Rattle.cue_station.specs.Network.{network_by, relayed_of}
+use Rattle.cue_station.specs.Network.{network_by, relayed_of, stamped_at}
 use Rattle.cue_station.specs.Moving.{back_by, moved_of, place_by}
 use Rattle.cue_station.specs.Offering.{is_lit}
 use Rattle.cue_station.specs.Pacing.{is_overdue}
@@ -56,7 +56,8 @@ pub record PressIsSo (t : Turn) (past : List Turn) : Type 0 where
       → IsTrue (is_heeded past t.input.at t.input.wall view b) → IsSome (order_of b) → IsTrue (is_press_sent t.sent)
   pub told : t.view.unsent ≡ unsent_of past t.input
 
--- THE STATUS IS ASKED: if none was ever asked, or a second ago, a message goes out: a question, or that of a press.
+-- THE STATUS IS ASKED: if none was ever asked, or half a second ago, a message goes out: a question, or that of a
+-- press.
 abbrev pub StatusIsAsked : Turn → List Turn → Type 0
 StatusIsAsked t past = IsTrue (is_overdue (question_of past) t.input.at) → IsSome t.sent
 
@@ -70,6 +71,7 @@ pub record AgeIsSo (t : Turn) (past : List Turn) : Type 0 where
   pub made : t.view.at ≡ t.input.at
   pub read : t.view.read ≡ read_at (reading_of (t ∷ past))
   pub served : t.view.served ≡ asked_at (answered_of (t ∷ past))
+  pub stamped : t.view.stamped ≡ stamped_at (relayed_of (t ∷ past))
 
 -- LAST IS SO, AND SO ARE NEXT, THE STACK AND WHAT IS LIVE: by the newest copy and its events, and no first cue after
 -- the end; an attempt is ready only if GO can be given.
@@ -86,6 +88,12 @@ BeforeIsSo t past = t.view.before ≡ said_before (t ∷ past)
 -- AFTER GO NOTHING IS CHOSEN, until a press chooses.
 abbrev pub NoHop : Turn → List Turn → Type 0
 NoHop t past = t.view.chosen ≡ chosen_number (chosen_of (t ∷ past))
+
+-- WHAT IS NOT SETTLED IS SAID: a STANDBY of ours whose attempt is not shown yet, and a status that is not of the newest
+-- copy.
+pub record UnsettledIsSo (t : Turn) (past : List Turn) : Type 0 where
+  pub awaits : t.view.awaits ≡ is_awaited (chosen_of (t ∷ past))
+  pub differs : t.view.differs ≡ is_some (differs_since (t ∷ past))
 
 -- THE WAY BACK IS SO: where the last press moved the place from, as long as the place is where it moved it.
 abbrev pub BackIsSo : Turn → List Turn → Type 0
@@ -117,6 +125,7 @@ pub record Keeps (t : Turn) (past : List Turn) : Type 0 where
   pub age : AgeIsSo t past
   pub copy : CopyIsSo t past
   pub chosen : NoHop t past
+  pub unsettled : UnsettledIsSo t past
   pub back : BackIsSo t past
   pub alarm : AlarmIsSo t past
   pub failed : FailureStays t past

@@ -1,5 +1,6 @@
 -- When a button may be lit, at a moment by each of the two clocks.
-use Rattle.std.specs.Prelude.{ℕ, Bool, true, false, ◌&&◌, ◌||◌, List, [], ◌∷◌, ◌++◌, Option, None, Some, is_none, nat_eq}
+use Rattle.std.specs.Prelude.{ℕ, Bool, true, false, ◌&&◌, ◌||◌, List, [], ◌∷◌, ◌++◌, Option, None, Some, is_none}
+use Rattle.std.specs.Prelude.{nat_eq}
 use Rattle.std.specs.Option.{option_map_or}
 use Rattle.cue_show.specs.Number.{same_text}
 use Rattle.cue_show.specs.Show.{has_cue}
@@ -48,8 +49,8 @@ may_go f since cue q c =
     (f.stands && (f.is_quiet && is_number q f.chosen))
     && is_live_as q (λ a. same_text a.cue cue && is_ready (since q) f.at f.wall a) c.state.live
 
--- CANCEL: the attempt prepares, and was chosen, or the last press is a GO of it that is open. An open STANDBY or release
--- of ours does not stop it: it is the safe way.
+-- CANCEL: the attempt prepares, and was chosen, or the last press is a GO of it that is open. An open STANDBY or
+-- release of ours does not stop it: it is the safe way.
 abbrev pub may_cancel : Footing → List ℕ → ℕ → Copied → Bool
 may_cancel f cue q c =
     (f.stands && ((f.is_calm && is_number q f.chosen) || is_number q f.going))

@@ -1,6 +1,7 @@
 -- What a relay says of its devices, by the clock that never goes back.
 use Rattle.std.specs.Prelude.{◌-◌, ◌+◌, ◌^◌, min, ℕ, Bool, true, false, if◌then◌else◌, List, [], ◌∷◌, map}
 use Rattle.std.specs.Prelude.{Option, None, Some, nat_eq, nat_le}
+use Rattle.std.specs.Option.{option_map}
 use Rattle.cue_relay.specs.declared.status.Seen.{Seen}
 use Rattle.cue_relay.specs.declared.status.Status.{Status}
 use Rattle.cue_station.specs.declared.heard.Heard.{Heard}
@@ -39,6 +40,10 @@ relayed_with _ at old = old
 abbrev pub relayed_of : List Turn → Option Relayed
 relayed_of [] = None
 relayed_of (t ∷ past) = relayed_with t.input.heard t.input.at (relayed_of past)
+
+-- since when it has written nothing new
+abbrev pub stamped_at : Option Relayed → Option ℕ
+stamped_at r = option_map (λ (x : Relayed). x.since) r
 
 -- it has written nothing new for five seconds, whatever its own clock says
 abbrev pub is_stopped : ℕ → ℕ → Bool

@@ -1,10 +1,10 @@
 -- When a question for the status is due.
 use Rattle.std.specs.Prelude.{ℕ, Bool, true, false, ◌&&◌, ◌||◌, ◌+◌, Option, None, Some, nat_le, nat_lt}
+use Rattle.cue_station.specs.declared.limits.TheConstants.{ASK_AGAIN_MS, ASK_MS}
 use Rattle.cue_station.specs.declared.memory.Notes.{Notes}
 use Rattle.cue_station.specs.declared.memory.Pace.{Pace}
 use Rattle.cue_station.specs.declared.memory.Pending.{Pending}
 use Rattle.cue_station.specs.declared.memory.Question.{Question}
-use Rattle.cue_station.specs.declared.pacing.TheConstants.{ASK_AGAIN_MS, ASK_MS}
 
 -- how long after a question the next one is due, by whether a status came to it
 abbrev pub wait_by : Bool → ℕ
@@ -20,10 +20,10 @@ is_after_press (Some p) now = nat_lt p.at now
 abbrev pub is_at_once : Notes → Pace → ℕ → Bool
 is_at_once n p now = p.is_wanted && (p.is_answered && is_after_press n.press now)
 
--- none was ever asked, or the newest one was a second ago
+-- none was ever asked, or the newest one was half a second ago
 abbrev pub is_overdue : Option Question → ℕ → Bool
 is_overdue None now = true
-is_overdue (Some q) now = nat_le (q.at + ASK_MS) now
+is_overdue (Some q) now = nat_le (q.at + ASK_AGAIN_MS) now
 
 -- a question is due, by the newest one that was sent
 abbrev pub is_due_after : Option Question → Notes → Pace → ℕ → Bool

@@ -1,5 +1,5 @@
 -- What a view is made of.
-use Rattle.std.specs.Prelude.{◌≡◌, ◌++◌, ℕ, List, [], Option, None, Some, filter}
+use Rattle.std.specs.Prelude.{◌≡◌, ◌++◌, ℕ, List, [], Option, None, Some, filter, is_some}
 use Rattle.std.specs.Option.{option_map}
 use Rattle.cue_station.specs.declared.alarms.Facts.{Facts}
 use Rattle.cue_view.specs.declared.button.Button.{Button}
@@ -16,20 +16,18 @@ use Rattle.cue_view.specs.declared.view.View.{View}
 use Rattle.cue_station.specs.declared.viewing.Drawn.{Drawn}
 use Rattle.cue_station.specs.Alarms.{alarms_by, asked_at, put_back_in, read_at}
 use Rattle.cue_station.specs.Asking.{said_by, unshown_by}
+use Rattle.cue_station.specs.Choosing.{is_awaited}
 use Rattle.cue_station.specs.Drawing.{ShowsReading, live_by}
 use Rattle.cue_station.specs.Following.{next_in}
 use Rattle.cue_station.specs.Moving.{back_by, place_by}
 use Rattle.cue_station.specs.Lighting.{keys_of, may_in}
 use Rattle.cue_station.specs.Keeping.{numbers_of, shown_failures}
-use Rattle.cue_station.specs.Network.{network_by}
+use Rattle.cue_station.specs.Network.{network_by, stamped_at}
 use Rattle.cue_station.specs.Smaller.{smaller_of}
 use Rattle.cue_station.specs.Showing.{given_in, shown_live, since_in, stack_of}
 use Rattle.cue_station.specs.Telling.{last_in, past_in}
 
 -- ---- the alarms
-
-abbrev pub stamped_at : Option Relayed → Option ℕ
-stamped_at r = option_map (λ (x : Relayed). x.since) r
 
 -- what is known when the alarms are made
 abbrev pub facts_by : Notes → Option Reading → Option Relayed → ℕ → Facts
@@ -95,7 +93,10 @@ pub record IsView (n : Notes) (r : Option Reading) (relay : Option Relayed) (see
   pub at : v.at ≡ f.at
   pub read : v.read ≡ read_at r
   pub served : v.served ≡ asked_at n.answered
+  pub stamped : v.stamped ≡ stamped_at relay
   pub chosen : v.chosen ≡ f.chosen
+  pub awaits : v.awaits ≡ is_awaited n.choice
+  pub differs : v.differs ≡ is_some n.differs
   pub back : v.back ≡ back_by n.moved (place_by r)
   pub said : v.said ≡ option_map (said_by r) n.press
   pub before : v.before ≡ option_map (said_by r) n.before

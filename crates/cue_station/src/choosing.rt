@@ -16,6 +16,13 @@ use cue_operator::CueVerb;
 use cue_show::CueNo;
 use cue_view::button::Button;
 
+/// Whether what will come of a STANDBY of ours is not known yet.
+pub(crate) fn is_awaited(choice: Choice) -> bool
+    ensures { result ≡ choosing.is_awaited choice }
+{
+    matches!(choice, Choice::Awaited(_, _))
+}
+
 // Whether the reply refuses something.
 fn is_refusal(replied: Replied) -> bool
     ensures { result ≡ choosing.is_refusal replied }

@@ -108,8 +108,8 @@ pub struct Word {
     pub became: Became,
 }
 
-/// A press that was sent: when, its ask and its button; which attempt was the newest then; what came to its socket; what
-/// the first copy showed that settled it; and whether a copy showed that it was carried out.
+/// A press that was sent: when, its ask and its button; which attempt was the newest then; what came to its socket;
+/// what the first copy showed that settled it; and whether a copy showed that it was carried out.
 #[derive(Clone, Copy)]
 pub struct Pending {
     pub at: u64,

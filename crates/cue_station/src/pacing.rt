@@ -3,15 +3,10 @@ ghost use Rattle.std.specs.Prelude.{◌≡◌};
 ghost use Rattle.cue_station.specs.Pacing as pacing;
 
 use crate::heard::{Heard, Send};
+use crate::limits::{ASK_AGAIN_MS, ASK_MS};
 use crate::memory::{Notes, Pace, Question};
 use cue_desk::orders::DeskCommand;
 use cue_desk::replying::Replied;
-
-/// How long after a question for the status the next one is due, in milliseconds.
-const ASK_MS: u64 = 1_000;
-
-/// The same if no status came to it.
-const ASK_AGAIN_MS: u64 = 500;
 
 // Whether the last press was sent before the moment, so that a question that is sent now is asked after it.
 fn is_after_press(notes: &Notes, at: u64) -> bool
@@ -39,7 +34,7 @@ fn is_at_once(notes: &Notes, pace: Pace, at: u64) -> bool
 }
 
 /// Whether a question for the status is due: at once after a copy that differs and after each press, half a second
-/// after one to which none came, and else each second.
+/// after one to which none came, and else a tenth of a second after one that was answered.
 pub(crate) fn is_due(notes: &Notes, pace: Pace, at: u64) -> bool
     ensures { result ≡ pacing.is_due notes.now pace at }
 {

@@ -61,8 +61,8 @@ fn refusal_by(tap: bool, recent: bool, offered: bool, may: bool) -> Option<Unsen
     }
 }
 
-/// Why the press of a button of a view is not heeded, if it is not: it is the second tap of a GO, the view is old or had
-/// it dark, or it may no longer be lit. `press`: the last that was sent.
+/// Why the press of a button of a view is not heeded, if it is not: it is the second tap of a GO, the view is old or
+/// had it dark, or it may no longer be lit. `press`: the last that was sent.
 pub(crate) fn refusal_of(
     views: &[Shown],
     view: u64,
@@ -74,7 +74,8 @@ pub(crate) fn refusal_of(
 ) -> Option<Unsent>
     ensures heeded { is_none result ≡ (is_offered view footing.now.at button.now views.now
         && may_by footing.now (since_in seen.now) reading.now button.now) }
-    ensures why { result ≡ pressing.refusal_by (asking.is_tap footing.now.at button.now press.now) (list_any (is_recent view footing.now.at) views.now)
+    ensures why { result ≡ pressing.refusal_by (asking.is_tap footing.now.at button.now press.now)
+        (list_any (is_recent view footing.now.at) views.now)
         (is_offered view footing.now.at button.now views.now)
         (may_by footing.now (since_in seen.now) reading.now button.now) }
 {

@@ -139,7 +139,8 @@ impl Station {
     }
 
     /// Whether a question for the status is due: at once after a copy that differs and after each press, half a second
-    /// after one to which none came, and else each second. A step that has no press to send asks it.
+    /// after one to which none came, and else a tenth of a second after one that was answered. A step that has no press
+    /// to send asks it.
     pub fn due(&self, at: u64) -> bool
         ensures { result ≡ pacing.is_due self.now.notes self.now.pace at }
     {

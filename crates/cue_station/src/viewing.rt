@@ -3,11 +3,12 @@ ghost use Rattle.std.specs.Prelude.{◌≡◌, IfOk};
 ghost use Rattle.cue_station.specs.Alarms as alarms;
 ghost use Rattle.cue_station.specs.Drawing as drawing;
 ghost use Rattle.cue_station.specs.Keeping.{numbers_of};
-ghost use Rattle.cue_station.specs.Network.{network_by};
+ghost use Rattle.cue_station.specs.Network as network;
 ghost use Rattle.cue_station.specs.Showing.{since_in};
 ghost use Rattle.cue_station.specs.Viewing as viewing;
 
 use crate::alarms::{Facts, alarms_of, put_back_in};
+use crate::choosing::is_awaited;
 use crate::following::next_in;
 use crate::heard::Copied;
 use crate::keeping::{numbers_of, shown_failures};
@@ -37,7 +38,7 @@ struct Drawn {
 
 // Since when the relay has written nothing new.
 fn stamped_at(relay: &Option<Relayed>) -> Option<u64>
-    ensures { result ≡ viewing.stamped_at relay.now }
+    ensures { result ≡ network.stamped_at relay.now }
 {
     match relay {
         Some(relay) => Some(relay.since),
@@ -80,7 +81,7 @@ fn put_back(
 
 // What the relay says of its devices.
 fn network(alloc: Global, relay: &Option<Relayed>, at: u64) -> Result<Vec<Contacted>, AllocError>
-    ensures { IfOk result (λ v. v.items ≡ network_by relay.now at) }
+    ensures { IfOk result (λ v. v.items ≡ network.network_by relay.now at) }
 {
     match relay {
         Some(relay) => network_in(alloc, relay.status.as_ref(), relay.since, at),
@@ -209,12 +210,15 @@ pub(crate) fn view_of(
         at: footing.at,
         read: read_at(reading),
         served: asked_at(&notes.answered),
+        stamped: stamped_at(relay),
         next,
         place,
         back: back_by(notes.moved, place_by(reading)),
         stack,
         live,
         chosen: footing.chosen,
+        awaits: is_awaited(notes.choice),
+        differs: notes.differs.is_some(),
         lit,
         said: said_by(&notes.press, reading),
         before: said_by(&notes.before, reading),

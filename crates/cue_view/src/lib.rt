@@ -4,4 +4,6 @@
 #![tactic(auto)]
 
 pub mod button;
+pub mod late;
 pub mod view;
+mod whole;

@@ -200,6 +200,8 @@ pub struct View {
     pub read: Option<u64>,
     /// The moment at which the status was asked that was answered last.
     pub served: Option<u64>,
+    /// The moment since which the relay has written nothing new; none if none is watched.
+    pub stamped: Option<u64>,
     pub next: Next,
     pub place: Option<CueNo>,
     /// If the last press moved the place from, as long as the place is the cue that it moved to.
@@ -208,6 +210,11 @@ pub struct View {
     pub stack: Vec<CueNo>,
     pub live: Vec<LiveAttempt>,
     pub chosen: Option<u32>,
+    /// Whether the attempt of the last STANDBY is not shown yet: it is chosen as soon as it is.
+    pub awaits: bool,
+    /// Whether the status that was answered last is not of the store that was read last, as for a moment after each
+    /// change.
+    pub differs: bool,
     pub lit: Vec<Button>,
     pub said: Option<Said>,
     /// The press before the last one, and what became of it.

@@ -16,6 +16,24 @@ fn is_undone(became: Became) -> bool {
     matches!(became, Became::Refused(_) | Became::Nobody | Became::Lost)
 }
 
+// The press, once it was said that it is open.
+fn told(pending: Pending) -> Pending {
+    let Pending {
+        ask,
+        since,
+        what,
+        passed,
+        is_told: _,
+    } = pending;
+    Pending {
+        ask,
+        since,
+        what,
+        is_told: true,
+        passed,
+    }
+}
+
 impl<R: Files<File = File> + Net + Clock + AllocGlobal> Panel<'_, R> {
     /// Hears the controller and the store, and says what became of a press.
     pub fn round(&mut self) -> io::Result<()> {
@@ -25,61 +43,66 @@ impl<R: Files<File = File> + Net + Clock + AllocGlobal> Panel<'_, R> {
         Ok(())
     }
 
-    // What became of the press that is not told yet.
-    fn became(&self) -> Option<Became> {
-        match (&self.pending, self.desk.view().said) {
-            (Some(pending), Some(said)) if said.ask == pending.ask => Some(said.became),
+    // What the view says of the press with this ask; none if it says nothing of it.
+    fn became(&self, ask: u64) -> Option<Became> {
+        let view = self.desk.view();
+        match (view.said, view.before) {
+            (Some(said), _) if said.ask == ask => Some(said.became),
+            (_, Some(before)) if before.ask == ask => Some(before.became),
             _ => None,
         }
     }
 
-    // Says what became of a press, once it is settled; and that it is open, if that lasts.
-    fn say_pending(&mut self) -> Result<(), AllocError> {
-        let Some(became) = self.became() else {
-            return Ok(());
+    // Says what became of a press.
+    fn say_became(&mut self, what: &str, became: Became) -> Result<(), AllocError> {
+        let words = became_words(self.rt.alloc(), became, self.setting.port)?;
+        let words = words.as_str();
+        self.line(format_args!("{what}: {words}"))
+    }
+
+    // Says what became of a press once it is settled, and that it is open, if that lasts. It is given back until its
+    // end is told.
+    fn say_press(&mut self, pending: Pending) -> Result<Option<Pending>, AllocError> {
+        let Some(became) = self.became(pending.ask) else {
+            return Ok(Some(pending));
         };
+        let is_open = matches!(became, Became::Open | Became::Unshown);
+        let is_long = !pending.is_told && self.hand.at.saturating_sub(pending.since) > OPEN;
+        if is_open && !is_long {
+            return Ok(Some(pending));
+        }
+        self.say_became(pending.what.as_str(), became)?;
+        if is_open {
+            Ok(Some(told(pending)))
+        } else {
+            Ok(None)
+        }
+    }
+
+    // Says what became of the press before the newest one, and of that.
+    fn say_pending(&mut self) -> Result<(), AllocError> {
+        if let Some(before) = self.before.take() {
+            self.before = self.say_press(before)?;
+        }
         let Some(pending) = self.pending.take() else {
             return Ok(());
         };
-        if is_undone(became) {
-            self.passed = pending.passed;
+        if self.became(pending.ask).is_some_and(is_undone) {
+            self.hand.passed = pending.passed;
         }
-        let is_open = matches!(became, Became::Open | Became::Unshown);
-        let is_said = !is_open
-            || (!pending.is_told && self.now.saturating_sub(pending.since) > OPEN);
-        if is_said {
-            let words = became_words(self.rt.alloc(), became, self.setting.port)?;
-            let (what, words) = (pending.what.as_str(), words.as_str());
-            self.line(format_args!("{what}: {words}"))?;
-        }
-        if is_open {
-            let Pending {
-                ask,
-                since,
-                what,
-                is_told,
-                passed,
-            } = pending;
-            self.pending = Some(Pending {
-                ask,
-                since,
-                what,
-                is_told: is_said || is_told,
-                passed,
-            });
-        }
+        self.pending = self.say_press(pending)?;
         Ok(())
     }
 
     // Says what was dropped.
     fn say_dropped(&mut self) -> Result<(), AllocError> {
-        if self.waited > 0 && self.settling.is_over() {
+        if self.waited > 0 && self.hand.settling.is_over() {
             let waited = mem::replace(&mut self.waited, 0);
             self.line(format_args!(
                 "{waited} presses waited in the device, nobody knows how long: dropped"
             ))?;
         }
-        if self.flooded > 0 && self.floods.is_due(self.now) {
+        if self.flooded > 0 && self.floods.is_due(self.hand.at) {
             let flooded = mem::replace(&mut self.flooded, 0);
             self.line(format_args!("{flooded} presses more at once than fingers: dropped"))?;
         }

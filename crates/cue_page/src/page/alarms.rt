@@ -19,16 +19,22 @@ function faultWords(attempt) {
   return cueWords(attempt) + fault + failedWords(failed, attempt.stage === "given") + rest;
 }
 
-// What moves by itself once what is missing is back: a cue that was given waits for it. `isOf`: whether the device is
-// meant.
-function owedWords(isOf) {
+// What moves by itself once what is missing is back: a cue that was given waits for it. A relay has the devices of the
+// network alone; while the controller is missing nothing can be released.
+const RELEASE = ". Release first what must not move";
+const BACK = {
+  relay: ["each of these that it reaches moves at once: ", RELEASE],
+  silent: ["this moves at once: ", ". Nothing can be released before: hold what must not move at the machine"],
+  device: ["this moves at once: ", RELEASE],
+};
+
+// `isOf`: whether the device is meant.
+function owedWords(kind, isOf) {
   const given = view.live.filter((one) => one.stage === "given" && waitedFor(one).some(isOf));
   const each = given.map((one) => "device " + devicesWords(waitedFor(one).filter(isOf)) + " (cue " + one.cue + ")");
-  return each.length ? "; when it is back, this moves at once: " + each.join(", ")
-    + ". Release first what must not move" : "";
+  const [moves, first] = BACK[kind];
+  return each.length ? "; when it is back, " + moves + each.join(", ") + first : "";
 }
-
-const BACK = { relay: () => true, silent: () => true };
 
 function alarmWords(alarm) {
   const live = alarm.kind === "failed" && view.live.find((one) => one.attempt === alarm.of);
@@ -36,8 +42,9 @@ function alarmWords(alarm) {
   const told = alarm.kind === "failed" && view.failed.find((one) => one.attempt === alarm.of);
   if (told) return endWords(told);
   if (alarm.kind === "device")
-    return "device " + called(alarm.of, deviceName(alarm.of)) + " is silent" + owedWords((one) => one === alarm.of);
-  return alarm.words + (BACK[alarm.kind] ? owedWords(BACK[alarm.kind]) : "");
+    return "device " + called(alarm.of, deviceName(alarm.of)) + " is silent"
+      + owedWords("device", (one) => one === alarm.of);
+  return alarm.words + (BACK[alarm.kind] ? owedWords(alarm.kind, () => true) : "");
 }
 
 function alarmLine(alarm, index) {

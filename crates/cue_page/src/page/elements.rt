@@ -3,10 +3,10 @@
 /// The text of the first `script`. Texts are shown by `textContent` alone.
 pub(super) const ELEMENTS: &str = r#"
 "use strict";
-const DARK = 1000, SURE = 3000;
+const DARK = 1000, SURE = 3000, LATE = 250;
 const at = (id) => document.getElementById(id);
 const now = () => performance.now();
-let run = null, view = null, heard = 0, names = { cues: new Map(), devices: new Map() };
+let run = null, view = null, heard = 0, missed = 0, names = { cues: new Map(), devices: new Map() };
 let manner = { locked: false, readonly: false, told: null };
 let sure = { press: "", until: 0 };
 const shown = {};
@@ -34,7 +34,8 @@ function write(id, text) {
 }
 
 const seconds = (millis) => (millis / 1000).toFixed(1);
-const isDark = () => !view || now() - heard > DARK;
+// The desk does not answer: it is silent for a second, or nobody listened twice where it was.
+const isDark = () => !view || now() - heard > DARK || missed > 1;
 const isHeld = () => isDark() || manner.readonly;
 const litOf = (kind, of) => isHeld() ? undefined : view.lit.find((lit) => lit.kind === kind && of(lit));
 const NO_CUE = { name: "", note: "", color: null, flag: null };

@@ -20,9 +20,17 @@ const chosenAttempt = () => view.live.find((attempt) => attempt.attempt === view
 const loudest = () =>
   isDark() ? DESK : view.alarms.find((alarm) => ["silent", "other", "old"].includes(alarm.kind));
 
-// A press that is open: no other one is sent meanwhile.
-const openWords = () =>
-  view.said && view.said.kind === "open" ? view.said.press + " is open still" : "serve has not answered yet";
+// A press that is open: no other one is sent meanwhile. Else what is served and what was read differ for a moment.
+const openWords = () => view.said && view.said.kind === "open" ? view.said.press + " is open still"
+  : "the desk is waiting until serve and the store agree";
+
+// What STANDBY of the next cue has to wait for.
+function whyNoStandby() {
+  const live = view.live.find((one) => one.cue === view.next.cue), waits = live ? waitedFor(live) : [];
+  if (!live) return view.next.why || openWords();
+  return "cue " + live.cue + " is " + stageWords(live)
+    + (waits.length ? "; it waits for device " + devicesWords(waits) : "");
+}
 
 // What GO or CANCEL has no attempt for; null if one is chosen.
 function whyNone(id) {
@@ -42,14 +50,17 @@ function whyNoGo(chosen) {
 function whyDark(id) {
   const loud = loudest();
   if (loud) return loud.words;
-  if (id === "standby") return view.next.why || openWords();
+  if (id === "standby") return whyNoStandby();
   return whyNone(id) || (id === "go" ? whyNoGo(chosenAttempt()) : openWords());
 }
 
 // The release of the one device that keeps GO of the chosen cue waiting, and what it does; else why there is none.
 function lastWaiter() {
   const chosen = isDark() ? undefined : chosenAttempt();
-  if (!chosen) return { why: whyDark("go") };
+  if (!chosen) {
+    const isWaited = !isDark() && view.live.some((one) => waitedFor(one).length);
+    return { why: isWaited ? "no cue is chosen: press Release beside the device" : whyDark("go") };
+  }
   const waits = chosen.devices.filter((one) => one.answer === "waiting"), [one] = waits;
   if (!waits.length) return { why: "cue " + chosen.cue + " waits for no device" };
   if (waits.length > 1)

@@ -7,7 +7,11 @@ const CLASSES = { waiting: "waiting", ready: "is-ready", done: "done", failed: "
 const SIGNS = { waiting: "\u2026", ready: "\u2713", done: "\u25a0", failed: "\u2715", excused: "\u2013" };
 const STAGES = { ready: "ready: GO can be given", held: "held: GO cannot be given now", preparing: "preparing",
   over: "its ten seconds are over", given: "given", "given up": "given up" };
-const stageWords = (attempt) => STAGES[attempt.stage] + (attempt.reason ? ": " + attempt.reason : "");
+// A GO that is open may be given although none can be pressed.
+const isGoing = (attempt) => view.said && view.said.kind === "open"
+  && view.said.press === "go " + attempt.cue + " " + attempt.attempt;
+const stageWords = (attempt) => attempt.stage === "held" && isGoing(attempt) ? "held: GO may still be given"
+  : STAGES[attempt.stage] + (attempt.reason ? ": " + attempt.reason : "");
 const isOpen = (attempt) => ["ready", "held", "preparing", "over"].includes(attempt.stage);
 const waitedFor = (attempt) => attempt.devices.filter((one) => one.answer === "waiting").map((one) => one.device);
 const contactOf = (device) => view.network.find((one) => one.device === device);

@@ -4,8 +4,8 @@
 /// The text of a `script`.
 pub(super) const MOVING: &str = r#"
 "use strict";
-// A relay writes once a second: what it says of a device may be older than what the store says of it.
-const SETTLED = 1500;
+// A relay writes ten times a second: what it says of a device may be older than what the store says of it.
+const SETTLED = 300;
 const since = new Map();
 
 const hasFailed = (device) =>
@@ -24,13 +24,13 @@ function followMoving() {
 
 const mayMove = (device) => since.has(device) && now() - since.get(device) > SETTLED;
 
-// What the devices did that failed. Before a GO only an abort is a failure.
+// What the devices did that failed. Before a GO only an abort is a failure. After it nobody can tell an abort from a
+// release by the store; the relay knows of some that they have not answered their GO.
 function failedWords(devices, isGiven) {
-  const known = view.network.length || !isGiven ? devices.filter((one) => !since.has(one)) : [];
-  const moving = devices.filter(mayMove);
-  const open = devices.filter((one) => !known.includes(one) && !moving.includes(one));
+  const moving = isGiven ? devices.filter(mayMove) : [];
+  const others = devices.filter((one) => !moving.includes(one));
   const words = (some, did) => some.length ? ": device " + devicesWords(some) + did : "";
-  return words(known, " aborted") + words(open, " aborted, or was released")
+  return words(others, isGiven ? " aborted or released" : " aborted")
     + words(moving, " was released: it may still move");
 }
 

@@ -1,10 +1,10 @@
-//! What the page does: it asks for the newest view four times in a second, and reports which button was pressed in
+//! What the page does: it asks for the newest view ten times in a second, and reports which button was pressed in
 //! which view, letter by letter as the view has it.
 
 /// The text of the last `script`.
 pub(super) const PRESSING: &str = r#"
 "use strict";
-const POLL = 250, LOCKED = 423, CLOSED = 429;
+const POLL = 100, LOCKED = 423, CLOSED = 429;
 const token = document.querySelector("meta[name=cuedesk-token]").content;
 let namesText = "";
 
@@ -52,7 +52,7 @@ function unsent(press, told) {
   if (why) { notGiven(press, why.words); return; }
   ownPress(press, told);
   followChoice();
-  say("", "", 0);
+  if (note.draw !== tapWords) say("", "", 0);
   showLive();
 }
 
@@ -118,12 +118,14 @@ document.addEventListener("keydown", (event) => {
   else press(id);
 });
 
+// Asks for the newest view. If nobody listens the page grows dark, and says so.
 async function read() {
   const stop = new AbortController(), timer = setTimeout(() => stop.abort(), DARK);
   try {
     const reply = await fetch("/board.json", { cache: "no-store", signal: stop.signal });
+    missed = 0;
     if (reply.ok) take(await reply.json());
-  } catch (error) { /* the page grows dark, and says so */ }
+  } catch (error) { missed += 1; }
   clearTimeout(timer);
 }
 

@@ -22,6 +22,7 @@ h2 { font-size: .8rem; letter-spacing: .14em; text-transform: uppercase; color: 
   font-weight: 700; }
 #tools { display: flex; flex-wrap: wrap; gap: .3rem .5rem; }
 #age { color: var(--soft); white-space: nowrap; }
+#age.late { color: var(--amber); }
 #age.old { color: var(--on-amber); background: var(--amber-fill); padding: 0 .7rem; border-radius: .3rem;
   font-weight: 700; }
 #told { grid-row: 2; padding: .25rem 1.4rem; background: var(--chip); border-left: 8px solid var(--amber);

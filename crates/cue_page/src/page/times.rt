@@ -36,11 +36,20 @@ function showNetwork() {
     showHeard(at("heard-" + attempt.attempt + "-" + one.device), contactOf(one.device));
 }
 
+// Who is silent, before it is long enough to be an alarm: the desk itself, else the controller and the relay.
+function lateWords() {
+  const waited = now() - heard;
+  if (waited >= LATE) return "; desk silent for " + seconds(waited) + " s";
+  return ["serve", "relay"].filter((who) => view.late[who] !== null)
+    .map((who) => "; " + who + " silent for " + seconds(view.late[who] + waited) + " s").join("");
+}
+
 function showAge() {
-  const dark = isDark(), age = view && view.read !== null ? view.read + now() - heard : null;
-  at("age").className = dark ? "old" : "";
+  const dark = isDark(), late = dark ? "" : lateWords();
+  const age = view && view.read !== null ? view.read + now() - heard : null;
+  at("age").className = dark ? "old" : late ? "late" : "";
   write("age", !view ? "no view yet" : dark ? "OLD: the desk does not answer"
-    : age === null ? "nothing was read yet" : "read " + seconds(age) + " s ago");
+    : (age === null ? "nothing was read yet" : "read " + seconds(age) + " s ago") + late);
 }
 
 function showTimes() {

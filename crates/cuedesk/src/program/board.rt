@@ -150,7 +150,7 @@ impl<'a, R: Files<File = File> + Net + Clock + AllocGlobal> Board<'a, R> {
     // That serve says otherwise than the files, as it may while a change is under way, if that is so.
     fn differing_lines(&self) -> Result<Vec<String>, AllocError> {
         let (alloc, port) = (self.rt.alloc(), self.port);
-        if !self.desk.differs() {
+        if !self.desk.view().differs {
             return Ok(Vec::new(alloc));
         }
         let line = format!(in alloc;
@@ -185,7 +185,7 @@ fn hear_all<R: Files<File = File> + Net + Clock + AllocGlobal>(
 ) -> io::Result<()> {
     for _ in 0..u64::MAX {
         desk.round()?;
-        if desk.is_complete() || desk.now()? > most {
+        if desk.view().is_complete() || desk.now()? > most {
             return Ok(());
         }
         desk.wait(PAUSE)?;

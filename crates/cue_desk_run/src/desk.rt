@@ -236,13 +236,14 @@ impl<'a, R: Files<File = File> + Net + Clock + AllocGlobal> Desk<'a, R> {
     }
 
     // Looks at the files of the store. What came while they were read is heard before the copy: else the next question
-    // for the status could take the place of one whose answer is there. A copy that was not heard is read again.
+    // for the status could take the place of one whose answer is there. A copy that was not heard is read again. It stands
+    // for the millisecond before: an answer that comes within the same one may be of a change that it does not have.
     fn look_at_store(&mut self) -> io::Result<()> {
         let begun = self.now()?;
         if !self.looks.is_due(begun) {
             return Ok(());
         }
-        let heard = self.store.look(self.rt, begun);
+        let heard = self.store.look(self.rt, begun.saturating_sub(1));
         if let Err(why) = self.hear_answers() {
             drop(heard);
             return Err(why);

@@ -39,6 +39,36 @@ class FalseController:
         self.wire.close()
 
 
+class Pretender(threading.Thread):
+    """Has the port of a controller that has ended: it gives the last status of that one, and says of each command that it
+    was made."""
+
+    def __init__(self, port, status):
+        super().__init__(daemon=True)
+        self.wire = socket.socket(socket.AF_INET, socket.SOCK_DGRAM)
+        self.wire.bind(("127.0.0.1", port))
+        self.wire.settimeout(0.05)
+        self.status, self.asked, self.stopped = status, [], False
+
+    def run(self):
+        while not self.stopped:
+            try:
+                datagram, sender = self.wire.recvfrom(4096)
+            except socket.timeout:
+                continue
+            address = address_of(datagram)
+            if address == "/status":
+                self.wire.sendto(self.status, sender)
+            else:
+                self.asked.append(address)
+                self.wire.sendto(reply(address, 1, 0, 0, 0), sender)
+        self.wire.close()
+
+    def stop(self):
+        self.stopped = True
+        self.join()
+
+
 class Strays(threading.Thread):
     """Datagrams of a stranger to a port of this machine, so many a second."""
 

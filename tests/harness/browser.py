@@ -10,7 +10,7 @@ ENTER, ESCAPE = "\ue007", "\ue00c"
 EXPECTED = ("net::", "503", "423", "AudioContext was not allowed")
 
 # What an element is that was replaced or moved meanwhile, or that of a page which loads itself again.
-PASSING = ("StaleElement", "NoSuchElement", "ClickIntercepted", "Javascript")
+PASSING = ("StaleElement", "NoSuchElement", "NotInteractable", "ClickIntercepted", "Javascript")
 
 
 def is_there():

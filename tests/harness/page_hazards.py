@@ -127,7 +127,7 @@ def two_ready(page, evening):
     """GO is for the cue that is chosen, and after it for none."""
     stood_by(page, evening, "1")
     check("another one from a terminal", evening.tells("standby", "2"))
-    check("both are ready", page.waits_for(lambda: page.text("live").count("ready: GO can be given") == 2))
+    check("both are ready", page.waits_for(lambda: page.text("live").count("ready, GO can be given") == 2))
     check("GO stays that of the first", page.text("go-cue") == "cue 1")
     chooses(page, "2")
     check("chosen, GO is that of the second", is_lit(page, "2"))
@@ -143,12 +143,31 @@ def two_ready(page, evening):
     check("then it is given", ends(page, "1", "complete"))
 
 
+def two_at_once(page, evening):
+    """GO less than a second after another one gives nothing, although a cue was chosen meanwhile, and says so."""
+    stood_by(page, evening, "1")
+    check("another one from a terminal", evening.tells("standby", "2"))
+    check("both are ready", page.waits_for(lambda: page.text("live").count("ready, GO can be given") == 2))
+    begun = time.monotonic()
+    page.key(" ")
+    chooses(page, "2")
+    page.key(" ")
+    check("the second GO came within a second", time.monotonic() - begun < 1.0)
+    check("it is said that it gave nothing", page.shows("words", "Cue 2 was not given: press GO again", 1))
+    check("and so it is", [a["stage"] for a in evening.view()["live"] if a["cue"] == "2"] == ["ready"])
+    time.sleep(1.0)
+    page.key(" ")
+    check("the next GO gives it", ends(page, "1", "complete") and ends(page, "2", "complete"))
+
+
 def open_go(page, evening):
     """GO is pressed while serve is held: it is open, and can be called off."""
     stood_by(page, evening, "1")
     evening.serve.hold()
     page.key(" ")
     check("the GO is open", page.shows("words", "nobody has replied", 1))
+    check("its card says so", page.shows("live", "GO is pressed, and open", 1))
+    check("and asks for no choice", "Choose for GO" not in page.text("live"))
     check("CANCEL is lit for it", page.waits_for(lambda: page.find("cancel").is_enabled(), 0.8))
     page.key(ESCAPE)
     check("and is sent", page.shows("words", "cancel 1", 1))
@@ -156,6 +175,20 @@ def open_go(page, evening):
     check("what became of the GO is told beside it", page.shows("words", "; before it, go 1 ", 3)
           and page.waits_for(lambda: page.text("words").endswith(": made"), 3))
     check("the GO came first", "refused: " in page.text("words") and ends(page, "1", "complete"))
+
+
+def open_go_again(page, evening):
+    """GO is pressed again while one is open: the line says that one is, and asks for no choice."""
+    stood_by(page, evening, "1")
+    check("the end of the STANDBY was told before", "before it" not in page.text("words"))
+    evening.serve.hold()
+    page.key(" ")
+    check("the GO is open", page.shows("words", "nobody has replied", 1))
+    time.sleep(1.1)
+    page.key(" ")
+    check("one more is not lit, and why", page.shows("words", "GO of cue 1 is open still", 1))
+    evening.serve.go_on()
+    check("it is given", ends(page, "1", "complete"))
 
 
 def end_of_stack(page, evening):
@@ -248,8 +281,8 @@ def short_hazards(desk, cuectl, work):
 
 def hazards(desk, cuectl, work):
     """Each of them."""
-    played(desk, cuectl, work, (dies, over, two_ready, open_go, end_of_stack, stopped_desk, started_again, late_reply,
-                                lambda page, evening: another(page, evening, work)))
+    played(desk, cuectl, work, (dies, over, two_ready, two_at_once, open_go, open_go_again, end_of_stack, stopped_desk,
+                                started_again, late_reply, lambda page, evening: another(page, evening, work)))
 
 
 def played(desk, cuectl, work, scenes):

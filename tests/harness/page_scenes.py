@@ -96,6 +96,24 @@ def prepares(page, evening, pictures):
     check("the cue completes without it", ends(page, "5", "complete") and page.shows("last", "without device 22"))
 
 
+def line_of_now(page, evening):
+    """Why a button was dark goes from the line as soon as it is lit, and each button has a reason of its own."""
+    evening.play("--silent", "22")
+    goes_to(page, "5")
+    page.click("standby")
+    check("the cue waits for a device", page.shows("live", "waiting for 22"))
+    page.key("s")
+    check("STANDBY says why it is dark", page.shows("words", "STANDBY is not lit: cue ", 1))
+    check("and nothing that is of GO", "no cue is stood by" not in page.text("words"))
+    page.key(" ")
+    check("GO says why it is dark", page.shows("words", "GO is not lit: cue 5 waits for device 22", 1))
+    check("the device is released elsewhere", evening.tells("release", "22"))
+    check("GO lights", is_lit(page, "5"))
+    check("and the line no longer says that it is not", page.waits_for(lambda: "not lit" not in page.text("words"), 0.7))
+    page.key(ESCAPE)
+    check("the cue is given up", ends(page, "5", "cancelled"))
+
+
 def chooses(page, cue):
     """Chooses the cue for GO and CANCEL, where it is not chosen."""
     button = "return (document.querySelector('#live button[aria-label^=\"Choose cue ' + arguments[0] + ' \"]') " \
@@ -288,9 +306,9 @@ def stays_in_sight(page, evening, relay):
         told.moving, told.has_stopped = (4,), True
         check("a relay that stops is said to be silent at once", page.shows("age", "relay silent for", 1.0))
         check("then it is an alarm, with what moves once it is back",
-              page.shows("alarm-0", "each of these that it reaches moves at once: device 4"))
+              page.shows("alarm-0", "each of these that it reaches may move at once: device 4"))
         told.has_stopped = False
-        check("the relay says that it moves", page.shows("heard-4", "moving"))
+        check("the relay says that it was sent GO", page.shows("heard-4", "GO sent"))
         releases(page, 4)
         check("a device that was released may still move", page.shows("alarms", "was released: it may still move", 1.5))
         check("and is never said to have aborted", "aborted" not in page.text("alarms"))

@@ -9,7 +9,7 @@ from page_guard import guards
 from page_list import lists
 from page_look import is_allowed, is_kept, sounded, sounds
 from page_scenes import (begins, ends, fails, follows, gives, goes_back, goes_to, is_lit, is_readable, is_refused, keys,
-                         loses_power, prepares, second_tab, stand_by_together)
+                         line_of_now, loses_power, prepares, second_tab, stand_by_together)
 
 
 def sends_nothing(page, evening):
@@ -48,6 +48,7 @@ def keys_in_browser(evening):
         begins(page, evening)
         gives(page, evening, "1")
         prepares(page, evening, None)
+        line_of_now(page, evening)
         is_refused(page, evening)
         goes_to(page, "1")
         page.key("s")
@@ -68,6 +69,7 @@ def in_browser(evening, pictures):
         is_allowed(page)
         gives(page, evening, "1")
         prepares(page, evening, pictures)
+        line_of_now(page, evening)
         is_refused(page, evening)
         keys(page, evening)
         goes_back(page, evening, pictures)

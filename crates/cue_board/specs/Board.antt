@@ -41,7 +41,7 @@ use Rattle.cue_board.specs.declared.stack.TheConstants.{ALWAYS, SHOWN}
 -- whether GO can be given for an attempt that prepares
 abbrev pub readiness : Progress → List ℕ
 readiness progress.Ready = codes "ready, GO can be given"
-readiness progress.Held = codes "held, GO cannot be given"
+readiness progress.Held = codes "held, GO is dark"
 readiness _ = codes "preparing"
 
 -- with what is left of its ten seconds
@@ -209,10 +209,13 @@ holds_back _ = false
 abbrev pub is_owed : LiveAttempt → Bool
 is_owed a = is_decided a.stage && some_waits a.devices
 
+-- that a cue may move these devices
+unfoldable pub owed_text : List ℕ → List ℕ → List ℕ
+owed_text cue numbers = codes "OWED   once back, cue " ++ (cue ++ (codes " may move device" ++ numbers))
+
 -- the cue, and the devices that it waits for
 unfoldable pub owed_words : LiveAttempt → List ℕ
-owed_words a =
-    codes "OWED   once it is back, cue " ++ (a.cue ++ (codes " moves device" ++ numbers_of answer.Waiting a.devices))
+owed_words a = owed_text a.cue (numbers_of answer.Waiting a.devices)
 
 -- the line of an attempt whose GO is owed to devices of it
 unfoldable pub owed_line : LiveAttempt → List (List ℕ)
@@ -250,7 +253,7 @@ read_said v = age_said v.at v.read ++ (serve_said (serve_late v) ++ relay_said (
 
 -- the attempt that ended last, and the age of what is shown
 abbrev pub ends_said : Names → View → List (List ℕ)
-ends_said names v = last_said names v.last ∷ read_said v ∷ []
+ends_said names v = last_said names v.last ++ (read_said v ∷ [])
 
 -- the loudest alarm, the stack, each live attempt with its devices, the last attempt, and the age
 abbrev pub board_with : ℕ → Names → View → List (List ℕ)

@@ -1,7 +1,6 @@
 -- How attempts ended, in words, with the names of their devices.
-use Rattle.std.specs.Prelude.{ℕ, ◌==◌, length, List, [], ◌∷◌, ◌++◌, codes, Option, None, Some, if◌then◌else◌}
+use Rattle.std.specs.Prelude.{ℕ, ◌==◌, length, map, List, [], ◌∷◌, ◌++◌, codes, Option, None, Some, if◌then◌else◌}
 use Rattle.std.specs.Fmt.{decimal}
-use Rattle.std.specs.List.{flat_map}
 use Rattle.cue_exchange.specs.declared.attempt.Outcome.{Outcome}
 use Rattle.cue_exchange.specs.declared.attempt.Outcome.TheVariants as outcome
 use Rattle.cue_exchange.specs.declared.attempt.Reason.{Reason}
@@ -29,29 +28,18 @@ name_after name = if length name == 0 then [] else codes " " ++ fit_of NAME name
 unfoldable pub device_words : Names → List ℕ → ℕ → List ℕ
 device_words names words d = words ++ (codes " " ++ (decimal d ++ name_after (device_name names d)))
 
--- each device with its name, the first after these words and the others after commas
-abbrev pub devices_words : Names → List ℕ → List ℕ → List ℕ
-devices_words names words [] = []
-devices_words names words (d ∷ ds) = device_words names words d ++ flat_map (device_words names (codes ",")) ds
-
--- what devices did that failed: after a GO one that was released failed, too, and the store does not say which it was
+-- what a device did that failed: after a GO one that was released failed, too, and the store does not say which it was
 abbrev pub did_words : Outcome → List ℕ
 did_words outcome.Failed = codes " aborted or released"
 did_words outcome.Cancelled = codes " aborted"
 did_words outcome.Complete = codes " aborted"
 
--- which devices failed
-abbrev pub failed_words : Names → Outcome → List ℕ → List ℕ
-failed_words names o [] = []
-failed_words names o (d ∷ ds) = devices_words names (codes ": device") (d ∷ ds) ++ did_words o
+-- a device that failed, and one that the cue went without
+unfoldable pub failed_said : Names → Outcome → ℕ → List ℕ
+failed_said names o d = device_words names (codes "       device") d ++ did_words o
 
--- which devices failed, and which it went without
-abbrev pub end_rest : Names → Told → List ℕ
-end_rest names t = failed_words names t.outcome t.failed ++ devices_words names (codes " without device") t.excused
-
--- how it ended
-unfoldable pub end_words : Names → Told → List ℕ
-end_words names t = end_front t ++ end_rest names t
+abbrev pub excused_said : Names → ℕ → List ℕ
+excused_said names d = device_words names (codes "       without device") d
 
 -- which attempt it is: its cue, or its number if the cue is not known any more
 abbrev pub which : Names → Option (List ℕ) → ℕ → List ℕ
@@ -61,7 +49,20 @@ which names None seq = codes "LAST   attempt " ++ decimal seq
 unfoldable pub last_front : Names → Told → List ℕ
 last_front names t = which names t.cue t.seq
 
--- the line of the last attempt: which one it is, and how it ended
-unfoldable pub last_said : Names → Option Told → List ℕ
-last_said names None = codes "LAST   no attempt has ended yet"
-last_said names (Some t) = last_front names t ++ (codes ": " ++ end_words names t)
+-- which attempt it is, and how it ended
+unfoldable pub told_said : Names → Told → List ℕ
+told_said names t = last_front names t ++ (codes ": " ++ end_front t)
+
+-- the same, and a line for each device that failed and each that it went without: none of them is cut away
+abbrev pub told_lines : Names → Told → List (List ℕ)
+told_lines names t =
+    told_said names t ∷ (map (failed_said names t.outcome) t.failed ++ map (excused_said names) t.excused)
+
+-- that none has ended
+unfoldable pub none_said : List ℕ
+none_said = codes "LAST   no attempt has ended yet"
+
+-- the attempt that ended last
+abbrev pub last_said : Names → Option Told → List (List ℕ)
+last_said names None = none_said ∷ []
+last_said names (Some t) = told_lines names t

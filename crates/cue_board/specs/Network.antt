@@ -13,16 +13,16 @@ when heard.Never = codes "never heard"
 when (heard.Ago millis) = codes "heard " ++ (decimal (millis / 1000) ++ codes " s ago")
 when heard.Unknown = codes "heard at a time that is not known"
 
--- what it does that was sent an order and has not answered
+-- which order it was sent and has not answered
 abbrev pub pending : Option Ordered → List ℕ
 pending None = []
-pending (Some ordered.Standby) = codes "preparing, "
-pending (Some ordered.Go) = codes "moving, "
-pending (Some ordered.Cancel) = codes "letting go, "
+pending (Some ordered.Standby) = codes "STANDBY sent, "
+pending (Some ordered.Go) = codes "GO sent, "
+pending (Some ordered.Cancel) = codes "CANCEL sent, "
 
-abbrev pub doing : Contacted → List ℕ
-doing c = if c.silent then codes "silent, " else pending c.ordered
+abbrev pub unanswered : Contacted → List ℕ
+unanswered c = if c.silent then codes "silent, " else pending c.ordered
 
 -- and when it was heard
 abbrev pub contact_words : Contacted → List ℕ
-contact_words c = doing c ++ when c.heard
+contact_words c = unanswered c ++ when c.heard

@@ -6,7 +6,7 @@ ghost use Rattle.cue_board.specs.Board.{Begin, said_of};
 ghost use Rattle.cue_board.specs.Columns.{AreFit};
 
 use crate::brief::push_live_brief;
-use crate::ends::last_line;
+use crate::ends::{last_takes, push_last};
 use crate::faults::{live_of, words_of};
 use crate::line::{BoardLine, texts};
 use crate::live::push_live;
@@ -152,7 +152,7 @@ fn push_ends(
     ensures { OnOk result
         (map said_of lines.new.items ≡ map said_of lines.old.items ++ board.ends_said names.now view.now) }
 {
-    lines.push(last_line(alloc, view.last.as_ref(), names)?)?;
+    push_last(alloc, lines, &view.last, names)?;
     let read = read_said(alloc, view)?;
     lines.push(BoardLine::bare(alloc, read))?;
     Ok(())
@@ -203,15 +203,18 @@ fn lines_of(
     }
 }
 
-// How many cues are shown, if the network takes so many lines.
+// How many cues are shown, if the network takes so many lines. One line of the last attempt is there in any case.
 fn cues_in(room: Option<usize>, view: &View, taken: usize) -> usize {
     let alarms = match loudest(view) {
         Some(alarm) => owed_at_most(&alarm, &view.live).saturating_add(1),
         None => 0,
     };
+    let ends = last_takes(&view.last).saturating_sub(1);
     match room {
         Some(room) => cues_within(
-            room.saturating_sub(taken).saturating_sub(alarms),
+            room.saturating_sub(taken)
+                .saturating_sub(alarms)
+                .saturating_sub(ends),
             &view.live,
         ),
         None => SHOWN,

@@ -1,6 +1,5 @@
-//! How an attempt ended, in words, with the names of its devices.
-ghost use Rattle.std.specs.Prelude.{◌≡◌, ◌++◌, IfOk, OnOk, codes, option_map, string_bytes};
-ghost use Rattle.std.specs.List.{flat_map};
+//! How an attempt ended, and a line for each of its devices that failed or that it went without.
+ghost use Rattle.std.specs.Prelude.{◌≡◌, ◌++◌, IfOk, OnOk, map, string_bytes};
 ghost use Rattle.cue_board.specs.Ends as ends;
 ghost use Rattle.cue_board.specs.Board.{said_of};
 
@@ -44,67 +43,13 @@ fn device_words(
     format!(in alloc; "{words} {number}{name}")
 }
 
-// Puts the devices with their names after the text, each after a comma.
-fn push_others(
-    alloc: Global,
-    text: &mut String,
-    devices: &[DeviceNo],
-    names: &Names<'_>,
-) -> Result<(), AllocError>
-    ensures { OnOk result (string_bytes text.new
-        ≡ string_bytes text.old ++ flat_map (ends.device_words names.now (codes ",")) devices.now) }
-{
-    for device in devices {
-        text.push_str(device_words(alloc, ",", *device, names)?.as_str())?;
-    }
-    Ok(())
-}
-
-// The devices with their names, after these words.
-fn devices_words(
-    alloc: Global,
-    words: &str,
-    devices: &[DeviceNo],
-    names: &Names<'_>,
-) -> Result<String, AllocError>
-    ensures { IfOk result (λ text. string_bytes text ≡ ends.devices_words names.now words.now devices.now) }
-{
-    match devices {
-        [] => Ok(String::new(alloc)),
-        [first, others @ ..] => {
-            let mut text = device_words(alloc, words, *first, names)?;
-            push_others(alloc, &mut text, others, names)?;
-            Ok(text)
-        }
-    }
-}
-
-// What devices did that failed. After a GO one that was released failed, too: the store does not say which it was.
+// What a device did that failed. After a GO one that was released failed, too: the store does not say which it was.
 fn did_words(outcome: Outcome) -> &'static str
     ensures { result.now ≡ ends.did_words outcome }
 {
     match outcome {
         Outcome::Failed => " aborted or released",
         Outcome::Cancelled | Outcome::Complete => " aborted",
-    }
-}
-
-// Which devices failed.
-fn failed_words(
-    alloc: Global,
-    outcome: Outcome,
-    devices: &[DeviceNo],
-    names: &Names<'_>,
-) -> Result<String, AllocError>
-    ensures { IfOk result (λ text. string_bytes text ≡ ends.failed_words names.now outcome devices.now) }
-{
-    match devices {
-        [] => Ok(String::new(alloc)),
-        _ => {
-            let mut text = devices_words(alloc, ": device", devices, names)?;
-            text.push_str(did_words(outcome))?;
-            Ok(text)
-        }
     }
 }
 
@@ -131,27 +76,6 @@ fn end_front(alloc: Global, told: &Told) -> Result<String, AllocError>
     format!(in alloc; "{outcome}{why}")
 }
 
-// Which devices failed, and which it went without.
-fn end_rest(alloc: Global, told: &Told, names: &Names<'_>) -> Result<String, AllocError>
-    ensures { IfOk result (λ text. string_bytes text ≡ ends.end_rest names.now told.now) }
-{
-    let mut text = failed_words(alloc, told.outcome, told.failed.as_slice(), names)?;
-    let excused = devices_words(alloc, " without device", told.excused.as_slice(), names)?;
-    text.push_str(excused.as_str())?;
-    Ok(text)
-}
-
-/// How an attempt ended: the outcome, why it was given up, which devices failed, and which it went without.
-#[tactic(auto, unfolding(crate::specs::Ends::end_words))]
-pub fn end_words(alloc: Global, told: &Told, names: &Names<'_>) -> Result<String, AllocError>
-    ensures { IfOk result (λ text. string_bytes text ≡ ends.end_words names.now told.now) }
-{
-    let mut text = end_front(alloc, told)?;
-    let rest = end_rest(alloc, told, names)?;
-    text.push_str(rest.as_str())?;
-    Ok(text)
-}
-
 // Which attempt ended: its cue with its name, or its number if the cue is not known any more.
 #[tactic(auto, unfolding(crate::specs::Ends::last_front))]
 fn last_front(alloc: Global, told: &Told, names: &Names<'_>) -> Result<String, AllocError>
@@ -171,29 +95,126 @@ fn last_front(alloc: Global, told: &Told, names: &Names<'_>) -> Result<String, A
 }
 
 // Which attempt ended, and how.
+#[tactic(auto, unfolding(crate::specs::Ends::told_said))]
 fn told_said(alloc: Global, told: &Told, names: &Names<'_>) -> Result<String, AllocError>
-    ensures { IfOk result (λ text. string_bytes text
-        ≡ ends.last_front names.now told.now ++ (codes ": " ++ ends.end_words names.now told.now)) }
+    ensures { IfOk result (λ text. string_bytes text ≡ ends.told_said names.now told.now) }
 {
     let front = last_front(alloc, told, names)?;
-    let words = end_words(alloc, told, names)?;
-    let (front, words) = (front.as_str(), words.as_str());
-    format!(in alloc; "{front}: {words}")
+    let end = end_front(alloc, told)?;
+    let (front, end) = (front.as_str(), end.as_str());
+    format!(in alloc; "{front}: {end}")
 }
 
-/// The line of the attempt that ended last.
-#[tactic(auto, unfolding(crate::specs::Ends::last_said))]
-pub(crate) fn last_line(
+// The line of a device that failed.
+#[tactic(auto, unfolding(crate::specs::Ends::failed_said))]
+fn failed_line(
     alloc: Global,
-    last: Option<&Told>,
+    outcome: Outcome,
+    device: DeviceNo,
     names: &Names<'_>,
 ) -> Result<BoardLine, AllocError>
-    ensures { IfOk result (λ line. said_of line
-        ≡ ends.last_said names.now (option_map (λ t. t.now) last.entry)) }
+    ensures { IfOk result (λ line. said_of line ≡ ends.failed_said names.now outcome device) }
 {
-    let said = match last {
-        Some(told) => told_said(alloc, told, names)?,
-        None => String::from_str(alloc, "LAST   no attempt has ended yet")?,
-    };
+    let mut said = device_words(alloc, "       device", device, names)?;
+    said.push_str(did_words(outcome))?;
     Ok(BoardLine::bare(alloc, said))
+}
+
+// Puts the line of each device that failed after the lines.
+fn push_failed(
+    alloc: Global,
+    lines: &mut Vec<BoardLine>,
+    outcome: Outcome,
+    devices: &[DeviceNo],
+    names: &Names<'_>,
+) -> Result<(), AllocError>
+    ensures { OnOk result (map said_of lines.new.items
+        ≡ map said_of lines.old.items ++ map (ends.failed_said names.now outcome) devices.now) }
+{
+    for device in devices {
+        lines.push(failed_line(alloc, outcome, *device, names)?)?;
+    }
+    Ok(())
+}
+
+// The line of a device that the cue went without.
+fn excused_line(alloc: Global, device: DeviceNo, names: &Names<'_>) -> Result<BoardLine, AllocError>
+    ensures { IfOk result (λ line. said_of line ≡ ends.excused_said names.now device) }
+{
+    let said = device_words(alloc, "       without device", device, names)?;
+    Ok(BoardLine::bare(alloc, said))
+}
+
+// Puts the line of each of these after the lines.
+fn push_excused(
+    alloc: Global,
+    lines: &mut Vec<BoardLine>,
+    devices: &[DeviceNo],
+    names: &Names<'_>,
+) -> Result<(), AllocError>
+    ensures { OnOk result (map said_of lines.new.items
+        ≡ map said_of lines.old.items ++ map (ends.excused_said names.now) devices.now) }
+{
+    for device in devices {
+        lines.push(excused_line(alloc, *device, names)?)?;
+    }
+    Ok(())
+}
+
+// Puts an attempt that ended after the lines: which one it is, and how it ended; then each device that failed, and each
+// that it went without.
+fn push_told(
+    alloc: Global,
+    lines: &mut Vec<BoardLine>,
+    told: &Told,
+    names: &Names<'_>,
+) -> Result<(), AllocError>
+    ensures { OnOk result
+        (map said_of lines.new.items ≡ map said_of lines.old.items ++ ends.told_lines names.now told.now) }
+{
+    let said = told_said(alloc, told, names)?;
+    lines.push(BoardLine::bare(alloc, said))?;
+    push_failed(alloc, lines, told.outcome, told.failed.as_slice(), names)?;
+    push_excused(alloc, lines, told.excused.as_slice(), names)
+}
+
+// The line that none has ended.
+#[tactic(auto, unfolding(crate::specs::Ends::none_said))]
+fn none_line(alloc: Global) -> Result<BoardLine, AllocError>
+    ensures { IfOk result (λ line. said_of line ≡ ends.none_said) }
+{
+    let said = String::from_str(alloc, "LAST   no attempt has ended yet")?;
+    Ok(BoardLine::bare(alloc, said))
+}
+
+/// Puts the attempt that ended last after the lines.
+pub(crate) fn push_last(
+    alloc: Global,
+    lines: &mut Vec<BoardLine>,
+    last: &Option<Told>,
+    names: &Names<'_>,
+) -> Result<(), AllocError>
+    ensures { OnOk result
+        (map said_of lines.new.items ≡ map said_of lines.old.items ++ ends.last_said names.now last.now) }
+{
+    match last {
+        Some(told) => push_told(alloc, lines, told, names),
+        None => {
+            lines.push(none_line(alloc)?)?;
+            Ok(())
+        }
+    }
+}
+
+/// How many lines that takes.
+pub(crate) fn last_takes(last: &Option<Told>) -> usize {
+    match last {
+        Some(told) => told
+            .failed
+            .as_slice()
+            .len()
+            .saturating_add(told.excused.as_slice().len())
+            .saturating_add(1),
+        None => 1,
+    }
 }

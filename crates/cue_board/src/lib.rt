@@ -11,14 +11,15 @@
 //!   even that one has room, the devices of an attempt that have answered the same share a line.
 //! - There is a line for the loudest alarm alone. A failure has one while its attempt is live, with its cue and its
 //!   devices; after that the line of the last cue says it. On a terminal nobody can say that a failure was seen.
-//! - While the controller or the relay has stopped, a line says what each cue that was given moves as soon as it is
-//!   back: who starts it again has to know that before.
+//! - While the controller or the relay has stopped, a line says what each cue that was given may move as soon as it
+//!   is back: who starts it again has to know that before.
 //! - In the line of the last cue its name stands before how it ended, and has 28 columns at most, so that the end is
-//!   not cut away. A text has at most four bytes a column: marks that belong to the letter before them take no column.
+//!   not cut away. Each device that failed in it, or that it went without, has a line: none is cut away. A text has at
+//!   most four bytes a column: marks that belong to the letter before them take no column.
 //! - A line of the log takes up to three lines: the reason stands at its end.
 //! - Which cues stand by together is drawn by the groups that the desk sends by, not by the show file as it is now:
 //!   what is shown beside the next cue is what STANDBY stands by.
-//! - A cue all of whose devices are ready is `held` if GO cannot be given all the same, as while `serve` does not
+//! - A cue all of whose devices are ready is `held` if GO is dark all the same, as while `serve` does not
 //!   answer.
 //!
 //! Only tested: names and notes, the lines of a log and of a relay. Neither: that a terminal gives a character the
@@ -46,7 +47,6 @@ mod together;
 pub use alarms::alarm_words;
 pub use board::board_lines;
 pub use columns::{COLUMNS, fitted};
-pub use ends::end_words;
 pub use log::log_lines;
 pub use names::Names;
 pub use network::contact_words;

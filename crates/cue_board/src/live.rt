@@ -24,7 +24,7 @@ fn readiness(progress: Progress) -> &'static str
 {
     match progress {
         Progress::Ready => "ready, GO can be given",
-        Progress::Held => "held, GO cannot be given",
+        Progress::Held => "held, GO is dark",
         _ => "preparing",
     }
 }

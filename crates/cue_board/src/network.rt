@@ -32,28 +32,28 @@ fn when(alloc: Global, heard: LastHeard) -> Result<String, AllocError>
     }
 }
 
-// What a device does that was sent an order and has not answered; nothing if it was sent none.
-fn doing(contact: &Contacted) -> &'static str
-    ensures { result.now ≡ network.doing contact.now }
+// What a device was sent and has not answered; nothing if it was sent none. Whether it heard that nobody knows.
+fn unanswered(contact: &Contacted) -> &'static str
+    ensures { result.now ≡ network.unanswered contact.now }
 {
     if contact.silent {
         return "silent, ";
     }
     match contact.ordered {
-        Some(Ordered::Standby) => "preparing, ",
-        Some(Ordered::Go) => "moving, ",
-        Some(Ordered::Cancel) => "letting go, ",
+        Some(Ordered::Standby) => "STANDBY sent, ",
+        Some(Ordered::Go) => "GO sent, ",
+        Some(Ordered::Cancel) => "CANCEL sent, ",
         None => "",
     }
 }
 
-/// When a device of a relay was heard, and what it does: it prepares, moves, lets go, or is silent.
+/// When a device of a relay was heard, and which order it was sent and has not answered, or that it is silent.
 pub fn contact_words(alloc: Global, contact: &Contacted) -> Result<String, AllocError>
     ensures { IfOk result (λ text. string_bytes text ≡ network.contact_words contact.now) }
 {
-    let (doing, when) = (doing(contact), when(alloc, contact.heard)?);
+    let (order, when) = (unanswered(contact), when(alloc, contact.heard)?);
     let when = when.as_str();
-    format!(in alloc; "{doing}{when}")
+    format!(in alloc; "{order}{when}")
 }
 
 // A device with these words.

@@ -1,5 +1,5 @@
-//! What moves by itself once what is missing is back: a cue that was given stays so while the controller or the relay has
-//! stopped, and its devices get GO as soon as that has started again.
+//! What may move by itself once what is missing is back: a cue that was given stays so while the controller or the
+//! relay has stopped, and its devices get GO as soon as that has started again. Some may have had it before.
 ghost use Rattle.std.specs.Prelude.{◌≡◌, ◌++◌, IfOk, OnOk, map, string_bytes};
 ghost use Rattle.std.specs.List.{flat_map};
 ghost use Rattle.cue_exchange.specs.Answers as answers;
@@ -38,14 +38,22 @@ fn is_owed(attempt: &LiveAttempt) -> bool
     attempt.stage.is_decided() && some_waits(attempt.devices.as_slice())
 }
 
-// What a cue moves.
+// That a cue may move these devices.
+#[tactic(auto, unfolding(crate::specs::Board::owed_text))]
+fn owed_text(alloc: Global, cue: &str, numbers: &str) -> Result<String, AllocError>
+    ensures { IfOk result (λ text. string_bytes text ≡ board.owed_text cue.now numbers.now) }
+{
+    Ok(format!(in alloc; "OWED   once back, cue {cue} may move device{numbers}")?)
+}
+
+// What a cue may move.
 #[tactic(auto, unfolding(crate::specs::Board::owed_words))]
 fn owed_words(alloc: Global, attempt: &LiveAttempt) -> Result<String, AllocError>
     ensures { IfOk result (λ text. string_bytes text ≡ board.owed_words attempt.now) }
 {
     let numbers = numbers_of(alloc, Answer::Waiting, attempt.devices.as_slice())?;
-    let (cue, numbers) = (cue_text(&attempt.cue), numbers.as_str());
-    Ok(format!(in alloc; "OWED   once it is back, cue {cue} moves device{numbers}")?)
+    let text = owed_text(alloc, cue_text(&attempt.cue), numbers.as_str())?;
+    Ok(text)
 }
 
 // Puts the line of a cue that was given after the lines, if it waits for a device.

@@ -1,3 +1,5 @@
 pub mod Hearing
+pub mod Looks
+pub mod Readings
 pub mod Shelves
 pub mod Sockets

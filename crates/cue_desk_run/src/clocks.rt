@@ -1,4 +1,7 @@
 //! The two clocks of the desk: one that never goes back, and that of the wall, by which the controller counts.
+ghost use Rattle.std.specs.Prelude.{◌≡◌};
+ghost use Rattle.cue_desk_run.specs.Looks as looks;
+
 use std::io;
 use std::time::{Clock, Instant};
 
@@ -45,7 +48,10 @@ impl Beat {
     }
 
     /// Whether it is due; if so, it counts as done at this moment.
-    pub fn is_due(&mut self, now: u64) -> bool {
+    pub fn is_due(&mut self, now: u64) -> bool
+        ensures due { result ≡ looks.is_beat self.old now }
+        ensures done { self.new ≡ looks.beat_after self.old now }
+    {
         let is_due = match self.last {
             Some(last) => now.saturating_sub(last) >= self.every,
             None => true,

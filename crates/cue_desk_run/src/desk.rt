@@ -4,6 +4,7 @@ use crate::alarms::{AlarmsFile, KeptAlarms, are_same, keep_at, kept_at};
 use crate::asks::Asks;
 use crate::clocks::{Beat, SteadyClock, wall_time};
 use crate::letters::letter_of;
+use crate::looks::Looks;
 use crate::reading::Store;
 use crate::relay::read_young;
 use cue_asker::AskerName;
@@ -21,9 +22,6 @@ use std::{io, mem};
 
 /// How many milliseconds lie between two views at most.
 const TICK: u64 = 50;
-
-/// How many lie between two looks at the files of the store.
-const LOOK: u64 = 100;
 
 /// How many lie between two looks at what the relay writes.
 const RELAY: u64 = 50;
@@ -73,7 +71,7 @@ pub struct Desk<'a, R> {
     loss: Option<io::Error>,
     together: &'a [Group],
     ticks: Beat,
-    looks: Beat,
+    looks: Looks,
     relays: Beat,
     keeps: Beat,
 }
@@ -121,7 +119,7 @@ impl<'a, R: Files<File = File> + Net + Clock + AllocGlobal> Desk<'a, R> {
             loss: None,
             together: sources.together,
             ticks: Beat::of(TICK),
-            looks: Beat::of(LOOK),
+            looks: Looks::new(),
             relays: Beat::of(RELAY),
             keeps: Beat::of(ALARMS),
         };
@@ -150,10 +148,7 @@ impl<'a, R: Files<File = File> + Net + Clock + AllocGlobal> Desk<'a, R> {
 
     /// What the store stood for when it was read last; none if it was never read.
     pub fn state(&self) -> Option<&State> {
-        match &self.station.reading {
-            Some(reading) => Some(&reading.copy.state),
-            None => None,
-        }
+        self.station.state()
     }
 
     /// What is waited at.
@@ -236,14 +231,13 @@ impl<'a, R: Files<File = File> + Net + Clock + AllocGlobal> Desk<'a, R> {
     }
 
     // Looks at the files of the store. What came while they were read is heard before the copy: else the next question
-    // for the status could take the place of one whose answer is there. A copy that was not heard is read again. It stands
-    // for the millisecond before: an answer that comes within the same one may be of a change that it does not have.
+    // for the status could take the place of one whose answer is there. A copy that was not heard is read again.
     fn look_at_store(&mut self) -> io::Result<()> {
         let begun = self.now()?;
-        if !self.looks.is_due(begun) {
+        if !self.looks.is_due(&self.view, begun) {
             return Ok(());
         }
-        let heard = self.store.look(self.rt, begun.saturating_sub(1));
+        let heard = self.store.look(self.rt, begun);
         if let Err(why) = self.hear_answers() {
             drop(heard);
             return Err(why);

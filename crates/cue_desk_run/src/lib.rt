@@ -40,6 +40,7 @@ mod asks;
 mod clocks;
 mod desk;
 mod letters;
+mod looks;
 mod naming;
 mod orders;
 mod plain;

@@ -1,4 +1,8 @@
 //! A store as the desk reads it, beside whoever serves it: read again only if its files may have changed.
+ghost use Rattle.std.specs.Prelude.{◌≡◌};
+ghost use Rattle.cue_desk_run.specs.Readings as readings;
+ghost use Rattle.cue_keeper.specs.Observed.{state_of};
+
 use crate::clocks::wall_time;
 use crate::stamps::stamps_at;
 use cue_copies::{Copies, Found, read_again};
@@ -22,7 +26,9 @@ pub struct Store {
 }
 
 // Why a file cannot be opened.
-fn trouble_of(fault: &FileFault) -> Trouble {
+fn trouble_of(fault: &FileFault) -> Trouble
+    ensures { result ≡ readings.trouble_of fault.now }
+{
     match fault {
         FileFault::NotFound => Trouble::Missing,
         FileFault::Io(_) => Trouble::Refused,
@@ -30,7 +36,9 @@ fn trouble_of(fault: &FileFault) -> Trouble {
 }
 
 // Why a store is refused.
-fn refusal_of(fault: StoreFault) -> Trouble {
+fn refusal_of(fault: StoreFault) -> Trouble
+    ensures { result ≡ readings.refusal_of fault }
+{
     match fault {
         StoreFault::Memory => Trouble::Memory,
         _ => Trouble::Refused,
@@ -61,7 +69,10 @@ fn find<R: Files<File = File> + AllocGlobal>(
 }
 
 // A copy of what was read, which was begun at this moment.
-fn heard_copy(begun: u64, keeper: &Keeper<MemDisk>, events: Vec<Event>) -> Heard {
+fn heard_copy(begun: u64, keeper: &Keeper<MemDisk>, events: Vec<Event>) -> Heard
+    ensures copy { readings.IsCopy begun (state_of keeper.now) events.items result }
+    ensures moment { readings.IsOf begun result }
+{
     match keeper.state().try_clone() {
         Ok(state) => Heard::Copied(Copied {
             begun,
@@ -69,6 +80,39 @@ fn heard_copy(begun: u64, keeper: &Keeper<MemDisk>, events: Vec<Event>) -> Heard
             events,
         }),
         Err(_) => Heard::Unread(Trouble::Memory),
+    }
+}
+
+// The same, with the bytes of the copy, if there was memory for it.
+fn hear_whole(
+    begun: u64,
+    copies: Copies,
+    keeper: Keeper<MemDisk>,
+    events: Vec<Event>,
+) -> (Heard, Option<Copies>)
+    ensures copy { readings.IsCopy begun (state_of keeper) events.items result.0 }
+    ensures moment { readings.IsOf begun result.0 }
+{
+    match heard_copy(begun, &keeper, events) {
+        Heard::Copied(copy) => (Heard::Copied(copy), Some(copies)),
+        other => {
+            drop(copies);
+            (other, None)
+        }
+    }
+}
+
+// What a reading is heard as that was begun at this moment, with the bytes that are kept of it.
+fn hear_found(begun: u64, found: Result<Found, Trouble>) -> (Heard, Option<Copies>)
+    ensures heard { readings.IsHeard begun found result.0 }
+    ensures moment { readings.IsOf begun result.0 }
+{
+    match found {
+        Ok(Found::Whole(copies, keeper, events)) => hear_whole(begun, copies, keeper, events),
+        Ok(Found::Same) => (Heard::Same(begun), None),
+        Ok(Found::Refused(fault)) => (Heard::Unread(refusal_of(fault)), None),
+        Ok(Found::Changing) => (Heard::Unread(Trouble::Changing), None),
+        Err(trouble) => (Heard::Unread(trouble), None),
     }
 }
 
@@ -96,35 +140,23 @@ impl Store {
         }
     }
 
-    // Keeps the bytes of the copy, if there was memory for it.
-    fn keep(&mut self, copies: Copies, heard: Heard) -> Heard {
-        if matches!(heard, Heard::Copied(_)) {
-            self.last = Some(copies);
+    // Reads the store, from this moment on.
+    fn read<R: Files<File = File> + AllocGlobal>(&mut self, rt: &R, begun: u64) -> Heard
+        ensures { readings.IsOf begun result }
+    {
+        let found = find(rt, self.dir.as_str(), &self.last);
+        let (heard, copies) = hear_found(begun, found);
+        if copies.is_some() {
+            self.last = copies;
         }
         heard
     }
 
-    // Reads the store, from this moment on.
-    fn read<R: Files<File = File> + AllocGlobal>(&mut self, rt: &R, begun: u64) -> Heard {
-        match find(rt, self.dir.as_str(), &self.last) {
-            Ok(Found::Whole(copies, keeper, events)) => self.keep(
-                copies,
-                heard_copy(begun, &keeper, events),
-            ),
-            Ok(Found::Same) => Heard::Same(begun),
-            Ok(Found::Refused(fault)) => Heard::Unread(refusal_of(fault)),
-            Ok(Found::Changing) => Heard::Unread(Trouble::Changing),
-            Err(trouble) => Heard::Unread(trouble),
-        }
-    }
-
     /// Looks at the store: it is read if that may give something else than the last copy. `begun` is this moment, by
     /// the clock that never goes back.
-    pub fn look<R: Files<File = File> + Clock + AllocGlobal>(
-        &mut self,
-        rt: &R,
-        begun: u64,
-    ) -> Heard {
+    pub fn look<R: Files<File = File> + Clock + AllocGlobal>(&mut self, rt: &R, begun: u64) -> Heard
+        ensures { readings.IsOf begun result }
+    {
         let wall = wall_time(rt);
         let stamps = stamps_at(rt, self.dir.as_str());
         if self.holds(stamps) {

@@ -3,7 +3,7 @@ use cue_board::{alarm_words, with_words};
 use cue_exchange::{Answer, Answers, Stage};
 use cue_presses::{Intent, Key, Spoken, Why};
 use cue_show::CueNo;
-use cue_show_file::{Group, others_of};
+use cue_show_file::{Group, cue_text, others_of};
 use cue_view::button::Button;
 use cue_view::view::{Alarm, LiveAttempt, Next, View};
 use std::alloc::{AllocError, Global};
@@ -220,6 +220,18 @@ fn this_words(alloc: Global, view: &View, intent: &Intent) -> Result<String, All
     }
 }
 
+// A cue that prepares, as an example; if there is none, any.
+fn example_cue(view: &View) -> &str {
+    let prepares = view
+        .live
+        .iter()
+        .find(|attempt| attempt.stage.is_preparing());
+    match prepares {
+        Some(attempt) => cue_text(&attempt.cue),
+        None => "12",
+    }
+}
+
 /// Why an intent presses nothing, in words. The view is the one that it was looked up in.
 pub fn why_words(
     alloc: Global,
@@ -234,14 +246,14 @@ pub fn why_words(
         Why::IsLive | Why::NotThis => this_words(alloc, view, intent),
         Why::Many => {
             let each = each_attempt(alloc, view, None)?;
-            let each = each.as_str();
-            format!(in alloc; "more than one: {each}: name one, as `cuedesk go 12`")
+            let (each, example) = (each.as_str(), example_cue(view));
+            format!(in alloc; "more than one: {each}: name one, as `cuedesk go {example}`")
         }
         Why::Passed => {
             let each = each_attempt(alloc, view, None)?;
-            let each = each.as_str();
+            let (each, example) = (each.as_str(), example_cue(view));
             format!(in alloc;
-                "{each}, but it stood by before the last GO: give it by its number, as `cuedesk go 12`"
+                "{each}, but it stood by before the last GO: give it by its number, as `cuedesk go {example}`"
             )
         }
         Why::Awaited => String::from_str(

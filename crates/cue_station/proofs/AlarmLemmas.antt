@@ -1,5 +1,5 @@
 -- What the alarms come to.
-use Rattle.std.proofs.Common.{◌≡◌, ◌+◌, ◌∙◌, ℕ, Bool, true, false, not, ◌||◌, if◌then◌else◌, List, [], ◌∷◌, ◌++◌, map}
+use Rattle.std.proofs.Common.{◌≡◌, ◌+◌, ◌∙◌, ℕ, Bool, true, false, not, ◌&&◌, ◌||◌, if◌then◌else◌, List, [], ◌∷◌, ◌++◌, map}
 use Rattle.std.proofs.Common.{Option, None, Some, nat_le, refl}
 use Rattle.std.specs.List.{list_any}
 use Rattle.std.specs.Option.{option_to_list}
@@ -9,7 +9,7 @@ use Rattle.cue_station.specs.declared.alarms.Facts.{Facts}
 use Rattle.cue_station.specs.declared.limits.TheConstants.{COPY_MS, OTHER_MS, SHOWN_MS, STATUS_MS}
 use Rattle.cue_view.specs.declared.view.Alarm.{Alarm}
 use Rattle.cue_view.specs.declared.view.Alarm.TheVariants as alarm
-use Rattle.cue_station.specs.Alarms.{doubt, either_by, is_within, not_shown, not_shown_by, old_by}
+use Rattle.cue_station.specs.Alarms.{doubt, either_by, is_asked_since, is_within, not_shown, not_shown_by, old_by}
 use Rattle.cue_station.specs.Alarms.{old_store, other_by, other_store, relay_stopped}
 use Rattle.cue_station.specs.Alarms.{silence}
 use Rattle.cue_station.specs.Alarms.{silence_by, silent_in, stopped_by}
@@ -37,10 +37,11 @@ or_none : (b : Bool) → (b || false) ≡ b
 or_none true = refl
 or_none false = refl
 
-pub none_other : (p : Alarm → Bool) → ((s : ℕ) → p (alarm.OtherStore s) ≡ false) → (since : Option ℕ) (now : ℕ)
-    → list_any p (option_to_list (other_by since now)) ≡ false
-none_other p fails None now = refl
-none_other p fails (Some s) now = any_if p (alarm.OtherStore s) (fails s) (nat_le (s + OTHER_MS) now)
+pub none_other : (p : Alarm → Bool) → ((s : ℕ) → p (alarm.OtherStore s) ≡ false) → (since asked : Option ℕ) (now : ℕ)
+    → list_any p (option_to_list (other_by since asked now)) ≡ false
+none_other p fails None asked now = refl
+none_other p fails (Some s) asked now =
+    any_if p (alarm.OtherStore s) (fails s) (is_asked_since s asked && nat_le (s + OTHER_MS) now)
 
 none_not_shown : (p : Alarm → Bool) → ((s : ℕ) → p (alarm.NotShown s) ≡ false) → (since read : Option ℕ)
     → list_any p (option_to_list (not_shown_by since read)) ≡ false
@@ -57,7 +58,7 @@ none_either p (Some a) other h k = h
 pub none_doubt : (p : Alarm → Bool) → ((s : ℕ) → p (alarm.OtherStore s) ≡ false)
     → ((s : ℕ) → p (alarm.NotShown s) ≡ false) → (f : Facts) → list_any p (option_to_list (doubt f)) ≡ false
 none_doubt p other unshown f =
-    none_either p (other_store f) (not_shown f) (none_other p other f.differs f.at)
+    none_either p (other_store f) (not_shown f) (none_other p other f.differs f.asked f.at)
     (none_not_shown p unshown f.unshown f.read)
 
 pub none_stopped : (p : Alarm → Bool) → ((s : ℕ) → p (alarm.RelayStopped s) ≡ false) → (since : Option ℕ) (now : ℕ)

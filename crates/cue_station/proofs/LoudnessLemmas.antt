@@ -1,5 +1,5 @@
 -- No alarm is louder than one before it.
-use Rattle.std.proofs.Common.{◌≡◌, ◌+◌, ◌≤◌, ℕ, Bool, true, false, if◌then◌else◌, List, [], ◌∷◌, ◌++◌, map}
+use Rattle.std.proofs.Common.{◌≡◌, ◌+◌, ◌≤◌, ℕ, Bool, true, false, ◌&&◌, if◌then◌else◌, List, [], ◌∷◌, ◌++◌, map}
 use Rattle.std.proofs.Common.{Option, None, Some, nat_le, refl, arith, lit≤}
 use Rattle.std.specs.Prelude.{All, IfSome}
 use Rattle.std.specs.Option.{option_to_list}
@@ -8,7 +8,7 @@ use Rattle.cue_view.specs.declared.view.Trouble.{Trouble}
 use Rattle.cue_station.specs.declared.limits.TheConstants.{COPY_MS, OTHER_MS, SHOWN_MS, STATUS_MS}
 use Rattle.cue_view.specs.declared.view.Alarm.{Alarm}
 use Rattle.cue_view.specs.declared.view.Alarm.TheVariants as alarm
-use Rattle.cue_station.specs.Alarms.{either_by, is_within, not_shown, not_shown_by, old_by, other_by}
+use Rattle.cue_station.specs.Alarms.{either_by, is_asked_since, is_within, not_shown, not_shown_by, old_by, other_by}
 use Rattle.cue_station.specs.Alarms.{other_store, silence_by, silent_in, stopped_by}
 use Rattle.cue_station.specs.Network.{is_stopped}
 use Rattle.cue_station.specs.Warning.{IsLoudestFirst, LoudestFirst, rank_of}
@@ -62,10 +62,12 @@ rank_silence true nobody asked = tt
 rank_silence false true asked = (lit≤ tt, lit≤ tt)
 rank_silence false false asked = (lit≤ tt, lit≤ tt)
 
-rank_other : (since : Option ℕ) (now : ℕ) → IfSome (other_by since now) (λ a. (2 ≤ rank_of a) × (rank_of a ≤ 3))
-rank_other None now = tt
-rank_other (Some s) now =
-    rank_if (λ a. (2 ≤ rank_of a) × (rank_of a ≤ 3)) (alarm.OtherStore s) (lit≤ tt, lit≤ tt) (nat_le (s + OTHER_MS) now)
+rank_other : (since asked : Option ℕ) (now : ℕ)
+    → IfSome (other_by since asked now) (λ a. (2 ≤ rank_of a) × (rank_of a ≤ 3))
+rank_other None asked now = tt
+rank_other (Some s) asked now =
+    rank_if (λ a. (2 ≤ rank_of a) × (rank_of a ≤ 3)) (alarm.OtherStore s) (lit≤ tt, lit≤ tt)
+    (is_asked_since s asked && nat_le (s + OTHER_MS) now)
 
 rank_not_shown : (since read : Option ℕ)
     → IfSome (not_shown_by since read) (λ a. (2 ≤ rank_of a) × (rank_of a ≤ 3))
@@ -95,7 +97,8 @@ in_order f back failures network =
     let all : Above 0 _ =
     above_option 0 2 _ _ (lit≤ tt) (rank_silence (is_within STATUS_MS f.at f.asked) f.nobody f.asked)
     (above_option 2 3 _ _ (lit≤ tt)
-    (rank_either (λ a. (2 ≤ rank_of a) × (rank_of a ≤ 3)) (other_store f) (not_shown f) (rank_other f.differs f.at)
+    (rank_either (λ a. (2 ≤ rank_of a) × (rank_of a ≤ 3)) (other_store f) (not_shown f)
+    (rank_other f.differs f.asked f.at)
     (rank_not_shown f.unshown f.read))
     (above_option 3 4 _ _ (lit≤ tt) (rank_stopped f.stamped f.at)
     (above_option 4 6 _ _ (lit≤ tt) (rank_old (is_within COPY_MS f.at f.read) f.trouble f.read)

@@ -1,9 +1,9 @@
 -- What is open stays so only as long as nothing closes it; and what is kept beside a new press.
-use Rattle.std.proofs.Common.{◌≡◌, refl, sym, ap, ◌∙◌, subst, ℕ, ◌≤◌, Bool, true, false, not, ◌&&◌, ◌||◌, cond, max, List}
+use Rattle.std.proofs.Common.{◌≡◌, refl, sym, ap, ◌∙◌, subst, ℕ, ◌<◌, ◌≤◌, Bool, true, false, not, ◌&&◌, ◌||◌, cond, max, List}
 use Rattle.std.proofs.Common.{[], ◌∷◌, ◌++◌, map}
-use Rattle.std.proofs.Common.{Option, None, Some, is_none, is_some, nat_le, IsTrue, arith, inl, inr, ◌⊎◌, ⊎_elim, option_map}
+use Rattle.std.proofs.Common.{Option, None, Some, is_none, is_some, nat_le, nat_lt, IsTrue, arith, inl, inr, ◌⊎◌, ⊎_elim, option_map}
 use Rattle.std.proofs.Common.{option_to_list}
-use Rattle.std.proofs.lemmas.Bool.{leb-true, le-leb}
+use Rattle.std.proofs.lemmas.Bool.{leb-true, lt-ltb, ltb-true}
 use Rattle.cue_show.proofs.TestLemmas.{both, cases, join, not_so}
 use Rattle.cue_view.specs.declared.button.Button.{Button}
 use Rattle.cue_view.specs.declared.button.Button.TheVariants as button
@@ -16,7 +16,7 @@ use Rattle.cue_station.specs.declared.memory.Pending.{Pending}
 use Rattle.cue_station.specs.declared.memory.Reading.{Reading}
 use Rattle.cue_station.specs.declared.memory.Word.{Word}
 use Rattle.cue_view.specs.declared.view.Became.{Became}
-use Rattle.cue_station.specs.Asking.{first_of, followed, going_by, if_open, is_final, is_open, is_read_after}
+use Rattle.cue_station.specs.Asking.{first_of, followed, going_by, if_open, is_final, is_open, is_read_later}
 use Rattle.cue_station.specs.Asking.{newest_of, only, second_of}
 use Rattle.cue_station.specs.Memory.{is_beside, is_cancel}
 use Rattle.cue_station.specs.Noting.{before_after, press_after}
@@ -55,23 +55,23 @@ rises heard.Tick r = record { next = r; is = refl; later = omega arith }
 
 -- ---- what is open was open
 
-later_unread : (m x y : ℕ) → x ≤ y → IsTrue (not (nat_le m y)) → IsTrue (not (nat_le m x))
+later_unread : (m x y : ℕ) → x ≤ y → IsTrue (not (nat_lt m y)) → IsTrue (not (nat_lt m x))
 later_unread m x y e h =
     ⊎_elim
-    (λ (k : nat_le m x ≡ true).
-    let low : m ≤ x = leb-true m x k in
-    let high : m ≤ y = omega arith in
-    absurd (cc (not_so (nat_le m y) h, le-leb m y high)))
-    (λ (k : nat_le m x ≡ false). ap not k)
-    (cases (nat_le m x))
+    (λ (k : nat_lt m x ≡ true).
+    let low : m < x = ltb-true m x k in
+    let high : m < y = omega arith in
+    absurd (cc (not_so (nat_lt m y) h, lt-ltb m y high)))
+    (λ (k : nat_lt m x ≡ false). ap not k)
+    (cases (nat_lt m x))
 
 unread_before : (answer new : Option Word) (h : Heard) (r : Option Reading)
-    → IsTrue (not (is_read_after (first_of answer new) (read_with h r))) → IsTrue (not (is_read_after answer r))
+    → IsTrue (not (is_read_later (first_of answer new) (read_with h r))) → IsTrue (not (is_read_later answer r))
 unread_before None new h r k = refl
 unread_before (Some w) new h None k = refl
 unread_before (Some w) new h (Some r) k =
     let up = rises h r in
-    later_unread w.at r.at up.next.at up.later (subst (λ o. IsTrue (not (is_read_after (Some w) o))) up.is k)
+    later_unread w.at r.at up.next.at up.later (subst (λ o. IsTrue (not (is_read_later (Some w) o))) up.is k)
 
 unsettled_before : (settled new : Option Became) → IsTrue (is_none (first_of settled new)) → IsTrue (is_none settled)
 unsettled_before None new k = refl
@@ -82,8 +82,8 @@ pub was_open : (h : Heard) (at : ℕ) (a : Option Answered) (r : Option Reading)
     → is_open (read_with h r) (followed h at a (read_with h r) p) ≡ true → is_open r p ≡ true
 was_open h at a r p k =
     let next = followed h at a (read_with h r) p in
-    let e = both (not (is_read_after next.answer (read_with h r))) (is_none next.settled) k in
-    join (not (is_read_after p.answer r)) (is_none p.settled) (unread_before p.answer _ h r e.0)
+    let e = both (not (is_read_later next.answer (read_with h r))) (is_none next.settled) k in
+    join (not (is_read_later p.answer r)) (is_none p.settled) (unread_before p.answer _ h r e.0)
     (unsettled_before p.settled _ e.1)
 
 -- ---- a press beside the newest one

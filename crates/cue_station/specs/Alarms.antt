@@ -150,13 +150,20 @@ silence_by false false asked = Some (alarm.Silent asked)
 abbrev pub silence : Facts → Option Alarm
 silence f = silence_by (is_within STATUS_MS f.at f.asked) f.nobody f.asked
 
--- what is served has not been what the store shows for a second
-abbrev pub other_by : Option ℕ → ℕ → Option Alarm
-other_by None now = None
-other_by (Some since) now = if nat_le (since + OTHER_MS) now then Some (alarm.OtherStore since) else None
+-- a status came that was asked later than at the moment
+abbrev pub is_asked_since : ℕ → Option ℕ → Bool
+is_asked_since since None = false
+is_asked_since since (Some asked) = nat_lt since asked
+
+-- What is served has not been what the store shows for a second, by a status that was asked meanwhile: one of before may
+-- only be older than the copy.
+abbrev pub other_by : Option ℕ → Option ℕ → ℕ → Option Alarm
+other_by None asked now = None
+other_by (Some since) asked now =
+    if is_asked_since since asked && nat_le (since + OTHER_MS) now then Some (alarm.OtherStore since) else None
 
 abbrev pub other_store : Facts → Option Alarm
-other_store f = other_by f.differs f.at
+other_store f = other_by f.differs f.asked f.at
 
 -- the last press was said to be carried out, and a copy that was begun a second later does not show it
 abbrev pub not_shown_by : Option ℕ → Option ℕ → Option Alarm

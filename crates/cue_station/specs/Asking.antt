@@ -93,10 +93,10 @@ shown_of (button.MoveTo cue) c = became.Unknown
 shown_of (button.Choose q) c = became.Unknown
 shown_of (button.Seen q) c = became.Unknown
 
--- a status was asked after the moment, and answered; and the copy was begun after that answer came
+-- a status was asked after the moment, and answered; and the copy was begun later than that answer came
 abbrev pub is_settled : ℕ → Option Answered → ℕ → Bool
 is_settled sent None begun = false
-is_settled sent (Some a) begun = nat_lt sent a.asked && nat_le a.came begun
+is_settled sent (Some a) begun = nat_lt sent a.asked && nat_lt a.came begun
 
 -- what the copy shows, if it settles what was sent at the moment
 abbrev pub settled_by : Button → ℕ → Option Answered → Option Reading → Option Became
@@ -187,15 +187,15 @@ became_by (Some w) settled = w.became
 became_by None (Some shown) = shown
 became_by None None = became.Open
 
--- a copy was begun after the answer came
-abbrev pub is_read_after : Option Word → Option Reading → Bool
-is_read_after None r = false
-is_read_after (Some w) None = false
-is_read_after (Some w) (Some r) = nat_le w.at r.at
+-- a copy was begun later than the answer came: one of the same millisecond may be of before
+abbrev pub is_read_later : Option Word → Option Reading → Bool
+is_read_later None r = false
+is_read_later (Some w) None = false
+is_read_later (Some w) (Some r) = nat_lt w.at r.at
 
--- A press is open until it is answered and a copy was begun after that, or until a copy settles it.
+-- A press is open until it is answered and a copy was begun later than that, or until a copy settles it.
 abbrev pub is_open : Option Reading → Pending → Bool
-is_open r p = not (is_read_after p.answer r) && is_none p.settled
+is_open r p = not (is_read_later p.answer r) && is_none p.settled
 
 -- the press, if there is one that passes the test
 abbrev pub only : (Pending → Bool) → Option Pending → Option Pending
@@ -227,12 +227,6 @@ stands_no_more cue (Some r) = not (stands cue r.copy)
 abbrev pub has_ended : Button → Option Reading → Bool
 has_ended (button.Standby cue) r = stands_no_more cue r
 has_ended _ r = false
-
--- a copy was begun later than the answer came: one of the same millisecond may be of before
-abbrev pub is_read_later : Option Word → Option Reading → Bool
-is_read_later None r = false
-is_read_later (Some w) None = false
-is_read_later (Some w) (Some r) = nat_lt w.at r.at
 
 -- a STANDBY that was made is over once a copy that was begun later has its cue standing by no more
 abbrev pub is_over : Option Reading → Pending → Bool
@@ -295,10 +289,17 @@ going_by (Some p) = go_number p.button
 abbrev pub going_of : List Turn → Option ℕ
 going_of turns = going_by (if_open (reading_of turns) (newest_of (presses_of turns)))
 
--- it is a GO, within a second of the last press, which was a GO too
+-- the two are there, and are the same attempt
+abbrev pub is_same_attempt : Option ℕ → Option ℕ → Bool
+is_same_attempt None other = false
+is_same_attempt (Some q) None = false
+is_same_attempt (Some q) (Some p) = nat_eq q p
+
+-- It is the GO of the last press once more, within a second of it. A GO of another attempt is a press of its own:
+-- somebody chose that one meanwhile.
 abbrev pub is_tap : ℕ → Button → Option Pending → Bool
 is_tap now b None = false
-is_tap now b (Some p) = is_some (go_number b) && (is_some (go_number p.button) && nat_le now (p.at + TAP_MS))
+is_tap now b (Some p) = is_same_attempt (go_number b) (go_number p.button) && nat_le now (p.at + TAP_MS)
 
 -- a go or a cancel
 abbrev pub is_final : Button → Bool

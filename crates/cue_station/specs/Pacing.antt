@@ -6,7 +6,7 @@ use Rattle.cue_station.specs.declared.memory.Pace.{Pace}
 use Rattle.cue_station.specs.declared.memory.Pending.{Pending}
 use Rattle.cue_station.specs.declared.memory.Question.{Question}
 
--- how long after a question the next one is due, by whether a status came to it
+-- how long after a question the next one is due, by whether a status came to it, or nobody listened
 abbrev pub wait_by : Bool → ℕ
 wait_by true = ASK_MS
 wait_by false = ASK_AGAIN_MS

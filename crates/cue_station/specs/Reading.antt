@@ -3,6 +3,7 @@ use Rattle.std.specs.Prelude.{ℕ, Bool, true, false, if◌then◌else◌, List,
 use Rattle.std.specs.Prelude.{Option, None, Some, is_some, nat_eq, nat_le, max}
 use Rattle.cue_exchange.specs.Live.{attempt_of}
 use Rattle.cue_exchange.specs.Outcomes.{outcome_number}
+use Rattle.cue_core.specs.State.{ShowState}
 use Rattle.cue_core.specs.declared.event.Ended.{Ended}
 use Rattle.cue_desk.specs.declared.orders.DeskCommand.{DeskCommand}
 use Rattle.cue_desk.specs.declared.orders.DeskCommand.TheVariants as order
@@ -34,6 +35,10 @@ abbrev pub read_with : Heard → Option Reading → Option Reading
 read_with (heard.Copied c) old = newer c old
 read_with (heard.Same begun) old = renewed begun old
 read_with _ old = old
+
+-- what the store stood for when it was read
+abbrev pub state_read : Reading → ShowState
+state_read r = r.copy.state
 
 -- the newest copy
 abbrev pub reading_of : List Turn → Option Reading

@@ -1,5 +1,5 @@
 //! What is wrong, the loudest first.
-ghost use Rattle.std.specs.Prelude.{◌≡◌, ◌++◌, IfOk, OnOk, map};
+ghost use Rattle.std.specs.Prelude.{◌≡◌, ◌++◌, IfOk, OnOk, Some, map};
 ghost use Rattle.std.specs.Option.{option_to_list};
 ghost use Rattle.cue_station.specs.Alarms as alarms;
 ghost use Rattle.cue_station.specs.Showing.{since_in};
@@ -69,13 +69,34 @@ fn silence(facts: Facts) -> Option<Alarm>
     }
 }
 
+// Whether a status came that was asked later than at this moment.
+fn is_asked_since(since: u64, asked: Option<u64>) -> bool
+    ensures { result ≡ alarms.is_asked_since since asked }
+{
+    match asked {
+        Some(asked) => since < asked,
+        None => false,
+    }
+}
+
+// Another store is served since this moment.
+fn other_by(since: u64, asked: Option<u64>, now: u64) -> Option<Alarm>
+    ensures { result ≡ alarms.other_by (Some since) asked now }
+{
+    if is_asked_since(since, asked) && now.saturating_sub(since) >= OTHER_MS {
+        Some(Alarm::OtherStore(since))
+    } else {
+        None
+    }
+}
+
 // Another store is served.
 fn other_store(facts: Facts) -> Option<Alarm>
     ensures { result ≡ alarms.other_store facts }
 {
     match facts.differs {
-        Some(since) if facts.at.saturating_sub(since) >= OTHER_MS => Some(Alarm::OtherStore(since)),
-        _ => None,
+        Some(since) => other_by(since, facts.asked, facts.at),
+        None => None,
     }
 }
 

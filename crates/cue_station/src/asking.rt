@@ -224,12 +224,12 @@ fn shown_of(button: Button, copy: &Copied) -> Became
     }
 }
 
-// Whether a status was asked after the moment and answered, and the copy was begun after that answer came.
+// Whether a status was asked after the moment and answered, and the copy was begun later than that answer came.
 fn is_settled(sent: u64, answered: &Option<Answered>, begun: u64) -> bool
     ensures { result ≡ asking.is_settled sent answered.now begun }
 {
     match answered {
-        Some(answered) => sent < answered.asked && answered.came <= begun,
+        Some(answered) => sent < answered.asked && answered.came < begun,
         None => false,
     }
 }

@@ -6,10 +6,10 @@ pub const COPY_MS: u64 = 1_000;
 /// A status, from the moment at which it was asked.
 pub const STATUS_MS: u64 = 2_000;
 
-/// How long after a question for the status that was answered the next one is due.
+/// How long after a question for the status that was answered, or that nobody listened to, the next one is due.
 pub const ASK_MS: u64 = 100;
 
-/// The same if no status came to it: an answer to an older question counts no more.
+/// The same if nothing came to it: an answer to an older question counts no more.
 pub const ASK_AGAIN_MS: u64 = 500;
 
 /// A view, when a press of it is heard.

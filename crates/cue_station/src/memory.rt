@@ -161,7 +161,7 @@ pub struct Notes {
 /// What says when the status is to be asked again. Nothing that is shown or sent for a press rests on it.
 #[derive(Clone, Copy)]
 pub struct Pace {
-    /// Whether a status came to the newest question.
+    /// Whether a status came to the newest question, or nobody listens.
     pub is_answered: bool,
     /// Whether the status is wanted at once.
     pub is_wanted: bool,

@@ -6,22 +6,22 @@ ghost use Rattle.cue_station.specs.Opening as opening;
 use crate::memory::{Pending, Reading, Word};
 use cue_view::button::Button;
 
-// Whether a copy was begun after the answer came.
-fn is_read_after(answer: Option<Word>, reading: &Option<Reading>) -> bool
-    ensures { result ≡ asking.is_read_after answer reading.now }
+/// Whether a copy was begun later than the answer came: one of the same millisecond may be of before.
+pub(crate) fn is_read_later(answer: Option<Word>, reading: &Option<Reading>) -> bool
+    ensures { result ≡ asking.is_read_later answer reading.now }
 {
     match (answer, reading) {
-        (Some(word), Some(reading)) => word.at <= reading.at,
+        (Some(word), Some(reading)) => word.at < reading.at,
         (None, _) => false,
         (Some(_), None) => false,
     }
 }
 
-// Whether a press is open: it is neither answered and read after that, nor settled.
+// Whether a press is open: it is neither answered and read later than that, nor settled.
 fn is_open(pending: &Pending, reading: &Option<Reading>) -> bool
     ensures { result ≡ asking.is_open reading.now pending.now }
 {
-    !is_read_after(pending.answer, reading) && pending.settled.is_none()
+    !is_read_later(pending.answer, reading) && pending.settled.is_none()
 }
 
 /// The press, if there is one and it is open.

@@ -33,8 +33,8 @@ fn is_at_once(notes: &Notes, pace: Pace, at: u64) -> bool
     pace.is_wanted && (pace.is_answered && is_after_press(notes, at))
 }
 
-/// Whether a question for the status is due: at once after a copy that differs and after each press, half a second
-/// after one to which none came, and else a tenth of a second after one that was answered.
+/// Whether a question for the status is due: at once after a copy that differs and after each press, a tenth of a second
+/// after one that was answered or that nobody listened to, and half a second after one to which nothing came.
 pub(crate) fn is_due(notes: &Notes, pace: Pace, at: u64) -> bool
     ensures { result ≡ pacing.is_due notes.now pace at }
 {
@@ -45,10 +45,19 @@ pub(crate) fn is_due(notes: &Notes, pace: Pace, at: u64) -> bool
         || at.saturating_sub(question.at) >= wait_by(pace.is_answered)
 }
 
-// Whether a status came to the newest question.
+// Whether the question is this one.
+fn is_question(ask: u64, question: Option<Question>) -> bool {
+    match question {
+        Some(question) => question.ask == ask,
+        None => false,
+    }
+}
+
+// Whether a status came to the newest question, or nobody listens.
 fn is_answer(heard: &Heard, question: Option<Question>) -> bool {
-    match (heard, question) {
-        (Heard::Replied(ask, Replied::Status(_)), Some(question)) => question.ask == *ask,
+    match heard {
+        Heard::Replied(ask, Replied::Status(_)) => is_question(*ask, question),
+        Heard::Nobody(ask) => is_question(*ask, question),
         _ => false,
     }
 }

@@ -31,14 +31,25 @@ pub(crate) fn order_of(button: Button) -> Option<DeskCommand>
     }
 }
 
-// Whether it is a GO, within a second of the last press, which was a GO too.
+// Whether the two are there, and are the same attempt.
+fn is_same_attempt(one: Option<u32>, other: Option<u32>) -> bool
+    ensures { result ≡ asking.is_same_attempt one other }
+{
+    match (one, other) {
+        (Some(one), Some(other)) => one == other,
+        (None, _) => false,
+        (Some(_), None) => false,
+    }
+}
+
+// Whether it is the GO of the last press once more, within a second of it.
 fn is_tap(at: u64, button: Button, press: &Option<Pending>) -> bool
     ensures { result ≡ asking.is_tap at button press.now }
 {
     match press {
         Some(press) => {
-            go_number(button).is_some()
-                && (go_number(press.button).is_some() && at.saturating_sub(press.at) <= TAP_MS)
+            is_same_attempt(go_number(button), go_number(press.button))
+                && at.saturating_sub(press.at) <= TAP_MS
         }
         None => false,
     }

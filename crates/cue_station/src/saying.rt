@@ -9,6 +9,7 @@ ghost use Rattle.cue_station.specs.declared.memory.Word.{Word};
 
 use crate::heard::Copied;
 use crate::memory::{Pending, Reading, Word};
+use crate::opening::is_read_later;
 use cue_show::CueNo;
 use cue_view::button::Button;
 use cue_view::view::{Became, Said};
@@ -63,16 +64,6 @@ fn has_ended(button: Button, reading: &Option<Reading>) -> bool
         Button::Standby(cue) => stands_no_more(cue, reading),
         Button::Go(_, _) | Button::Cancel(_, _) | Button::Release(_, _) => false,
         Button::MoveTo(_) | Button::Choose(_) | Button::Seen(_) => false,
-    }
-}
-
-// Whether a copy was begun later than the answer came: one of the same millisecond may be of before.
-fn is_read_later(answer: Option<Word>, reading: &Option<Reading>) -> bool
-    ensures { result ≡ asking.is_read_later answer reading.now }
-{
-    match (answer, reading) {
-        (Some(word), Some(reading)) => word.at < reading.at,
-        _ => false,
     }
 }
 

@@ -1,9 +1,11 @@
 //! The desk as a machine.
 ghost use Rattle.std.specs.Prelude.{◌≡◌, [], IfOk, OnErr, OnOk};
+ghost use Rattle.std.specs.Option.{option_copied, option_map};
 ghost use Rattle.cue_station.specs.Keeping.{numbers_seen};
 ghost use Rattle.cue_station.specs.Memory.{IsAfter, StepKeeps};
 ghost use Rattle.cue_station.specs.Noting as noting;
 ghost use Rattle.cue_station.specs.Pacing as pacing;
+ghost use Rattle.cue_station.specs.Reading.{state_read};
 ghost use Rattle.cue_station.specs.Stepping as stepping;
 
 use crate::heard::{Heard, Input, Send};
@@ -15,6 +17,7 @@ use crate::noting::{footing_by, notes_heard, notes_sent};
 use crate::pacing::{is_due, pace_heard, pace_sent};
 use crate::pressing::{order_of, refusal_of};
 use crate::viewing::view_of;
+use cue_core::State;
 use cue_desk::orders::DeskCommand;
 use cue_view::view::{Kept, Told, Unsent, View};
 use std::alloc::{AllocError, Global};
@@ -23,13 +26,13 @@ use std::alloc::{AllocError, Global};
 /// went wrong and nobody has seen: that of the newest copy, and of 64 attempts beside it.
 #[derive(Drop)]
 pub struct Station {
-    pub notes: Notes,
-    pub pace: Pace,
-    pub reading: Option<Reading>,
-    pub relay: Option<Relayed>,
-    pub seen: Vec<Seen>,
-    pub failed: Vec<Told>,
-    pub views: Vec<Shown>,
+    notes: Notes,
+    pace: Pace,
+    reading: Option<Reading>,
+    relay: Option<Relayed>,
+    seen: Vec<Seen>,
+    failed: Vec<Told>,
+    views: Vec<Shown>,
 }
 
 /// What a step gives.
@@ -138,9 +141,19 @@ impl Station {
         }
     }
 
-    /// Whether a question for the status is due: at once after a copy that differs and after each press, half a second
-    /// after one to which none came, and else a tenth of a second after one that was answered. A step that has no press
-    /// to send asks it.
+    /// What the store stood for when it was read last; none if it was never read.
+    pub fn state(&self) -> Option<&State>
+        ensures { option_copied result ≡ option_map state_read self.now.reading }
+    {
+        match &self.reading {
+            Some(reading) => Some(&reading.copy.state),
+            None => None,
+        }
+    }
+
+    /// Whether a question for the status is due: at once after a copy that differs and after each press, a tenth of a
+    /// second after one that was answered or that nobody listened to, and half a second after one to which nothing came.
+    /// A step that has no press to send asks it.
     pub fn due(&self, at: u64) -> bool
         ensures { result ≡ pacing.is_due self.now.notes self.now.pace at }
     {

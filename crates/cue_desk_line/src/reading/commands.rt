@@ -82,7 +82,7 @@ const VIEWS: [Declared; 5] = [
             PORT_OR_FILE,
             Argument::Option(
                 "status",
-                "Write there, once a second, when each device was heard; the board reads it. In memory, as in /run",
+                "Write there, ten times a second, when each device was heard, for board and page. In memory, as /run",
             ),
         ],
     },

@@ -11,21 +11,25 @@ function endWords(told) {
   return cueWords(told) + ": " + told.outcome + (told.reason ? ": " + told.reason : "") + failed + without;
 }
 
+// That nobody stands by for a cue any more, and why.
+const lostWords = (attempt) => " lost its standby" + (attempt.reason ? ": " + attempt.reason : "");
+
 // What goes wrong in a cue that is live: the others of its devices may still move.
 function faultWords(attempt) {
   const failed = attempt.devices.filter((one) => one.answer === "failed").map((one) => one.device);
-  const fault = attempt.reason ? " lost its standby: " + attempt.reason : " fails", waits = waitedFor(attempt);
-  const rest = waits.length ? "; still waiting for device " + devicesWords(waits) : "";
-  return cueWords(attempt) + fault + failedWords(failed, attempt.stage === "given") + rest;
+  const fault = attempt.reason ? lostWords(attempt) : " fails", waits = waitedFor(attempt);
+  const owes = attempt.stage === "given up" ? "; has not let go: device " : "; still waiting for device ";
+  const rest = waits.length ? owes + devicesWords(waits) : "", isGiven = attempt.stage === "given";
+  return cueWords(attempt) + fault + failedWords(failed, isGiven) + (isUnknown(failed, isGiven) ? UNKNOWN : "") + rest;
 }
 
-// What moves by itself once what is missing is back: a cue that was given waits for it. A relay has the devices of the
-// network alone; while the controller is missing nothing can be released.
+// What may move by itself once what is missing is back: a cue that was given waits for it. Some of it may have moved
+// before. A relay has the devices of the network alone; while the controller is missing nothing can be released.
 const RELEASE = ". Release first what must not move";
 const BACK = {
-  relay: ["each of these that it reaches moves at once: ", RELEASE],
-  silent: ["this moves at once: ", ". Nothing can be released before: hold what must not move at the machine"],
-  device: ["this moves at once: ", RELEASE],
+  relay: ["each of these that it reaches may move at once: ", RELEASE],
+  silent: ["this may move at once: ", ". Nothing can be released before: hold what must not move at the machine"],
+  device: ["this may move at once: ", RELEASE],
 };
 
 // `isOf`: whether the device is meant.
@@ -36,11 +40,17 @@ function owedWords(kind, isOf) {
   return each.length ? "; when it is back, " + moves + each.join(", ") + first : "";
 }
 
+// What went wrong in a cue that has ended.
+function failureWords(told) {
+  if (told.outcome === "cancelled") return cueWords(told) + lostWords(told) + failedWords(told.failed, false);
+  return endWords(told) + (isUnknown(told.failed, told.outcome === "failed") ? UNKNOWN : "");
+}
+
 function alarmWords(alarm) {
   const live = alarm.kind === "failed" && view.live.find((one) => one.attempt === alarm.of);
   if (live) return faultWords(live);
   const told = alarm.kind === "failed" && view.failed.find((one) => one.attempt === alarm.of);
-  if (told) return endWords(told);
+  if (told) return failureWords(told);
   if (alarm.kind === "device")
     return "device " + called(alarm.of, deviceName(alarm.of)) + " is silent"
       + owedWords("device", (one) => one === alarm.of);

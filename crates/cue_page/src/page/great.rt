@@ -32,10 +32,16 @@ function whyNoStandby() {
     + (waits.length ? "; it waits for device " + devicesWords(waits) : "");
 }
 
+// That no attempt is chosen: as long as a GO is open it is not known which is to be chosen next.
+function notChosen() {
+  const going = view.live.find(isGoing);
+  return going ? "GO of cue " + going.cue + " is open still" : "no cue is chosen: press Choose for GO on its card";
+}
+
 // What GO or CANCEL has no attempt for; null if one is chosen.
 function whyNone(id) {
   if (!view.live.some(isOpen)) return id === "cancel" && view.live.length ? "no cue prepares" : "no cue is stood by";
-  return chosenAttempt() ? null : "no cue is chosen: press Choose for GO on its card";
+  return chosenAttempt() ? null : notChosen();
 }
 
 // For whom GO waits, or what it lacks.
@@ -75,6 +81,7 @@ function lastWaiter() {
 function goWords() {
   const chosen = isDark() ? undefined : chosenAttempt(), waits = chosen ? waitedFor(chosen) : [];
   if (chosen && !isOwn()) return "chosen in another window";
+  if (chosen && chosen.stage === "over") return "its ten seconds are over";
   if (!waits.length) return "not lit";
   return "waits for " + (waits.length > 2 ? waits.length + " devices" : devicesWords(waits));
 }

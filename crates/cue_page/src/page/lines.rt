@@ -25,10 +25,16 @@ function goKind() {
 // A second tap within a second of a GO is the same press: a foot switch bounces. It gives no cue, and refuses none.
 const isTap = () => now() - lastGo.at < TAP && goKind() !== null;
 
+// That the tap did not give the cue either that was chosen here since the GO.
+function otherWords() {
+  const other = isOwn() && !lastGo.press.endsWith(" " + view.chosen) ? chosenAttempt() : undefined;
+  return other ? ". Cue " + other.cue + " was not given: press GO again" : "";
+}
+
 function tapWords() {
   const isMade = goKind() === "made";
   const cue = "cue " + called(lastGo.press.split(" ")[1], cueName(lastGo.press.split(" ")[1]));
-  return [(isMade ? "GO was given for " : "GO is pressed for ") + cue + "; the second tap did nothing",
+  return [(isMade ? "GO was given for " : "GO is pressed for ") + cue + "; the second tap did nothing" + otherWords(),
     isMade ? "made" : "open"];
 }
 
@@ -59,8 +65,9 @@ const opened = new Set();
 let closed = { ask: 0, until: 0 };
 
 function followBefore() {
-  const before = view.before;
-  if (view.said && view.said.kind === "open") opened.add(view.said.ask);
+  const { before, said } = view;
+  if (said && said.kind === "open") opened.add(said.ask);
+  else if (said) opened.delete(said.ask);
   if (before && before.kind !== "open" && opened.delete(before.ask)) closed = { ask: before.ask, until: now() + NOTED };
 }
 

@@ -5,12 +5,16 @@ pub(super) const LIVE: &str = r#"
 "use strict";
 const CLASSES = { waiting: "waiting", ready: "is-ready", done: "done", failed: "failed-device", excused: "excused" };
 const SIGNS = { waiting: "\u2026", ready: "\u2713", done: "\u25a0", failed: "\u2715", excused: "\u2013" };
-const STAGES = { ready: "ready: GO can be given", held: "held: GO cannot be given now", preparing: "preparing",
+const STAGES = { ready: "ready, GO can be given", held: "held, GO is dark", preparing: "preparing",
   over: "its ten seconds are over", given: "given", "given up": "given up" };
+// A GO of the attempt is one of the last two presses, and this became of it.
+const isGo = (attempt, kind) => [view.said, view.before].some((press) => press && press.kind === kind
+  && press.press === "go " + attempt.cue + " " + attempt.attempt);
 // A GO that is open may be given although none can be pressed.
-const isGoing = (attempt) => view.said && view.said.kind === "open"
-  && view.said.press === "go " + attempt.cue + " " + attempt.attempt;
-const stageWords = (attempt) => attempt.stage === "held" && isGoing(attempt) ? "held: GO may still be given"
+const isGoing = (attempt) => isGo(attempt, "open");
+const heldWords = (attempt) => isGoing(attempt) ? "held, GO may still be given"
+  : isGo(attempt, "said") ? "held, serve says that GO was given" : STAGES.held;
+const stageWords = (attempt) => attempt.stage === "held" ? heldWords(attempt)
   : STAGES[attempt.stage] + (attempt.reason ? ": " + attempt.reason : "");
 const isOpen = (attempt) => ["ready", "held", "preparing", "over"].includes(attempt.stage);
 const waitedFor = (attempt) => attempt.devices.filter((one) => one.answer === "waiting").map((one) => one.device);
@@ -73,6 +77,7 @@ function sinceLine(attempt) {
 // Which attempt GO and CANCEL are for stands in words.
 function choice(attempt) {
   const isChosen = view.chosen === attempt.attempt;
+  if (isGoing(attempt)) return make("p", "is-chosen", "\u25c6 GO is pressed, and open");
   if (isChosen && (isOwn() || manner.readonly)) return make("p", "is-chosen", "\u25c6 CHOSEN for GO and CANCEL");
   const lit = litOf("choose", (one) => one.attempt === attempt.attempt);
   if (isChosen && !lit) return make("p", "is-chosen", "\u25c6 chosen in another window");
@@ -108,7 +113,7 @@ function liveCards() {
 
 function showLive() {
   const live = view.live.map((attempt) => ({ ...attempt, left: 0, given: attempt.given !== null }));
-  const lit = [isHeld(), view.lit, sure.press, renamed, own];
+  const lit = [isHeld(), view.lit, sure.press, renamed, own, view.live.map(stageWords), view.live.map(isGoing)];
   place("live", liveCards, JSON.stringify([live, view.chosen, view.network.length > 0, lit]));
 }
 "#;

@@ -13,7 +13,7 @@ const hasFailed = (device) =>
   || [view.last, ...view.past, ...view.failed].some((told) => told && told.failed.includes(device));
 
 // GO was sent to the device, it has not answered, and no cue waits for it.
-const isLeft = (contact) => contact.heard.startsWith("moving") && hasFailed(contact.device)
+const isLeft = (contact) => contact.heard.startsWith("GO sent") && hasFailed(contact.device)
   && !view.live.some((one) => waitedFor(one).includes(contact.device));
 
 function followMoving() {
@@ -33,6 +33,10 @@ function failedWords(devices, isGiven) {
   return words(others, isGiven ? " aborted or released" : " aborted")
     + words(moving, " was released: it may still move");
 }
+
+// Those that failed after a GO, and of which no relay says whether they have answered it.
+const isUnknown = (devices, isGiven) => isGiven && devices.some((one) => !contactOf(one));
+const UNKNOWN = "; one that was released may still move";
 
 function movingAlarm(device) {
   const words = " was released, and may still move: no cue waits for it";

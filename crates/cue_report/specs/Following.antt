@@ -1,6 +1,5 @@
 -- What the report makes of the lines of an attempt.
-use Rattle.std.specs.Prelude.{ℕ, Bool, true, false, not, ◌&&◌, ◌||◌, if◌then◌else◌, Option, Some, None, is_some, ◌-◌}
-use Rattle.cue_report.specs.declared.attempt.Attempt.{Attempt}
+use Rattle.std.specs.Prelude.{ℕ, Bool, true, false, not, ◌||◌, Option, Some, None, ◌-◌}
 use Rattle.cue_report.specs.declared.attempt.Moment.{Moment}
 use Rattle.cue_report.specs.declared.attempt.Who.{Who}
 use Rattle.cue_report.specs.declared.attempt.Who.TheVariants as who
@@ -9,9 +8,9 @@ use Rattle.cue_log_lines.specs.declared.listed.Cause.TheVariants as cause
 use Rattle.cue_log_lines.specs.declared.line.Count.{Count}
 use Rattle.cue_operator.specs.declared.method.DeviceVerb.{DeviceVerb}
 use Rattle.cue_operator.specs.declared.method.DeviceVerb.TheVariants as word
-use Rattle.cue_report.specs.declared.attempt.Course.{Course}
-use Rattle.cue_report.specs.declared.attempt.Fate.{Fate}
-use Rattle.cue_report.specs.declared.attempt.Fate.TheVariants as fate
+use Rattle.cue_report.specs.declared.course.Course.{Course}
+use Rattle.cue_report.specs.declared.course.Fate.{Fate}
+use Rattle.cue_report.specs.declared.course.Fate.TheVariants as fate
 use Rattle.cue_log_lines.specs.declared.line.OrderKind.{OrderKind}
 use Rattle.cue_log_lines.specs.declared.line.OrderKind.TheVariants as order
 
@@ -85,18 +84,6 @@ is_failed fate.Failed = true
 abbrev pub first_moment : Option Moment → ℕ → Who → Option Moment
 first_moment (Some first) at by = Some first
 first_moment None at by = Some (record { at = at; by = by })
-
--- an attempt was stood by: the first time counts
-abbrev pub after_begin : ℕ → Who → Attempt → Attempt
-after_begin at by a = record a { begun = first_moment a.begun at by }
-
--- an attempt was given: the first time counts
-abbrev pub after_give : ℕ → Who → Attempt → Attempt
-after_give at by a = record a { given = first_moment a.given at by }
-
--- it was neither given nor given up, and has no end
-abbrev pub is_preparing : Attempt → Bool
-is_preparing a = not (is_some a.given) && (not (is_some a.given_up) && not (is_some a.ended))
 
 -- a device asked
 abbrev pub is_device : Who → Bool

@@ -1,4 +1,6 @@
 pub mod Following
+pub mod Picture
 pub mod Range
 pub mod Running
+pub mod Seen
 pub mod Telling

@@ -1,10 +1,16 @@
 //! One attempt as the report follows it.
-ghost use Rattle.std.specs.Prelude.{◌≡◌, ◌-◌, [], Some, None, is_some, if◌then◌else◌};
+ghost use Rattle.std.specs.Prelude.{◌≡◌, IfOk, OnOk, string_bytes};
+ghost use Rattle.cue_log_lines.specs.Listed.{failure_at};
 ghost use Rattle.cue_report.specs.Following as spec;
+ghost use Rattle.cue_report.specs.Seen as seen;
 
+use crate::course::{Course, Fate, course_of, fate_by, fate_of, put_course};
 use cue_asker::AskerName;
 use cue_exchange::Outcome;
-use cue_log_lines::{OrderKind, Span, Try};
+use cue_log_lines::listed::first_failure;
+use cue_log_lines::{OrderKind, Ordered, Span, Try};
+use cue_operator::DeviceVerb;
+use cue_show::limits::MAX_PARTS;
 use cue_show::{CueNo, DeviceNo};
 use std::alloc::{AllocError, Global};
 
@@ -39,132 +45,6 @@ pub struct Moment {
     pub by: Who,
 }
 
-/// What became of a device, beside its times.
-#[derive(Clone, Copy, PartialEq, Eq)]
-pub enum Fate {
-    /// It did what it was ordered, so far.
-    Well,
-    /// It aborted while it prepared: the cue goes without it, or was given up.
-    AbortedEarly,
-    /// It was released while it prepared: the cue goes without it, or was given up.
-    ReleasedEarly,
-    /// It aborted after the go.
-    Aborted,
-    /// It was released after the go.
-    Released,
-    /// It failed after the go, and the log does not say how.
-    Failed,
-}
-
-impl Fate {
-    /// Whether a cue that was given went without the device.
-    pub fn is_excused(self) -> bool
-        ensures { result ≡ spec.is_excused self }
-    {
-        match self {
-            Fate::AbortedEarly | Fate::ReleasedEarly => true,
-            Fate::Well | Fate::Aborted | Fate::Released | Fate::Failed => false,
-        }
-    }
-
-    /// Whether the device failed after the go.
-    pub fn is_failed(self) -> bool
-        ensures { result ≡ spec.is_failed self }
-    {
-        match self {
-            Fate::Aborted | Fate::Released | Fate::Failed => true,
-            Fate::Well | Fate::AbortedEarly | Fate::ReleasedEarly => false,
-        }
-    }
-}
-
-/// How many seconds lie between two lines of the log; 0 if the clock was put back between them.
-pub fn seconds_between(from: u64, to: u64) -> u64
-    ensures { result ≡ to - from }
-{
-    to.saturating_sub(from)
-}
-
-// How many seconds lie between two lines that may be there.
-fn span(from: Option<u64>, to: Option<u64>) -> Option<u64>
-    ensures { result ≡ spec.span from to }
-{
-    match (from, to) {
-        (Some(from), Some(to)) => Some(seconds_between(from, to)),
-        _ => None,
-    }
-}
-
-/// What a device did in an attempt: its times are those of the lines of the log, in seconds since 1970.
-#[derive(Clone, Copy)]
-pub struct Course {
-    pub device: DeviceNo,
-    /// When it was first ordered to stand by, and when it answered that it does.
-    pub asked: Option<u64>,
-    pub ready: Option<u64>,
-    /// When it was first sent GO, and when it answered that it is done.
-    pub sent: Option<u64>,
-    pub done: Option<u64>,
-    pub fate: Fate,
-    /// Whether an order to it did not leave this machine.
-    pub is_unsent: bool,
-}
-
-impl Course {
-    // A device of which nothing is known yet.
-    fn new(device: DeviceNo) -> Course {
-        Course {
-            device,
-            asked: None,
-            ready: None,
-            sent: None,
-            done: None,
-            fate: Fate::Well,
-            is_unsent: false,
-        }
-    }
-
-    // An order was sent to it, at this second. What was sent first counts.
-    fn order(&mut self, kind: OrderKind, at: u64, is_sent: bool)
-        ensures { self.new ≡ spec.after_order kind at is_sent self.old }
-    {
-        match kind {
-            OrderKind::Standby => self.asked = first_of(self.asked, at),
-            OrderKind::Go => self.sent = first_of(self.sent, at),
-            OrderKind::Cancel => {}
-        }
-        self.is_unsent = self.is_unsent || !is_sent;
-    }
-
-    // It stands by, at this second.
-    fn stand_by(&mut self, at: u64)
-        ensures { self.new ≡ spec.after_ready at self.old }
-    {
-        self.ready = first_of(self.ready, at);
-    }
-
-    // It has carried the cue out, at this second.
-    fn finish(&mut self, at: u64)
-        ensures { self.new ≡ spec.after_done at self.old }
-    {
-        self.done = first_of(self.done, at);
-    }
-
-    /// How many seconds it took to prepare; none if the log has not both lines.
-    pub fn prepared(&self) -> Option<u64>
-        ensures { result ≡ spec.span self.now.asked self.now.ready }
-    {
-        span(self.asked, self.ready)
-    }
-
-    /// How many seconds it took to move; none if the log has not both lines.
-    pub fn moved(&self) -> Option<u64>
-        ensures { result ≡ spec.span self.now.sent self.now.done }
-    {
-        span(self.sent, self.done)
-    }
-}
-
 /// How an attempt ended.
 #[derive(Clone, Copy)]
 pub struct Ended {
@@ -193,26 +73,10 @@ pub struct Attempt {
     pub devices: Vec<Course>,
 }
 
-// What was there, or else this.
-fn first_of(there: Option<u64>, at: u64) -> Option<u64>
-    ensures { result ≡ spec.first_of there at }
-{
-    match there {
-        Some(first) => Some(first),
-        None => Some(at),
-    }
-}
-
 impl Attempt {
     /// An attempt of which its number and its cue are known.
     pub fn new(alloc: Global, attempt: &Try) -> Attempt
-        ensures number { result.number ≡ attempt.now.number }
-        ensures cue { result.cue ≡ attempt.now.cue }
-        ensures begun { result.begun ≡ None }
-        ensures given { result.given ≡ None }
-        ensures given_up { result.given_up ≡ None }
-        ensures ended { result.ended ≡ None }
-        ensures devices { result.devices.items ≡ [] }
+        ensures { seen.seen result ≡ seen.new_of attempt.now }
     {
         Attempt {
             number: attempt.number,
@@ -227,26 +91,62 @@ impl Attempt {
         }
     }
 
-    /// It ended so at this second. The outcome is that of the line, whatever was seen before.
-    pub fn end(&mut self, at: u64, outcome: Outcome)
-        ensures ended { self.new.ended ≡ Some (record { at = at; outcome = outcome }) }
-        ensures devices { self.new.devices ≡ self.old.devices }
+    // The first device of a list failed. Answers the others.
+    fn take_failure<'a>(&mut self, failures: &'a [u8]) -> Result<&'a [u8], AllocError>
+        ensures { IfOk result (λ rest. (rest.now, seen.seen self.new) ≡
+            seen.failure_taken (failure_at failures.now) (seen.seen self.old)) }
     {
-        self.ended = Some(Ended { at, outcome });
+        match first_failure(failures) {
+            Some((failure, others)) => {
+                self.meet(failure.device, fate_of(failure.cause))?;
+                Ok(others)
+            }
+            None => Ok(&[]),
+        }
     }
 
-    /// It was stood by at this second, if that is not known yet.
-    pub fn begin(&mut self, at: u64, by: &Who)
-        ensures { self.new ≡ spec.after_begin at by.now self.old }
+    // The devices of a list failed.
+    #[tactic(auto, unfolding(crate::specs::Seen::failures_taken))]
+    fn take_failures(&mut self, failures: &[u8]) -> Result<(), AllocError>
+        ensures { let taken = seen.failures_taken MAX_PARTS failures.now (seen.seen self.old) in
+            OnOk result (seen.seen self.new ≡ taken.1) }
+    {
+        let mut left = failures;
+        for _taken in 0..MAX_PARTS {
+            left = self.take_failure(left)?;
+        }
+        Ok(())
+    }
+
+    // It ended so. The outcome is that of the line, whatever was seen before.
+    fn set_end(&mut self, at: u64, outcome: Outcome, span: Span)
+        ensures { seen.seen self.new ≡ seen.with_end at outcome span (seen.seen self.old) }
+    {
+        self.ended = Some(Ended { at, outcome });
+        self.after = Some(span);
+    }
+
+    /// It has ended, by its line, which has the devices that failed.
+    #[tactic(auto, unfolding(crate::specs::Seen::after_end))]
+    pub fn end(&mut self, at: u64, end: &cue_log_lines::Ended<'_>) -> Result<(), AllocError>
+        ensures { OnOk result (seen.seen self.new ≡ seen.after_end at end.now (seen.seen self.old)) }
+    {
+        self.set_end(at, end.outcome, end.span);
+        self.take_failures(end.failures.bytes())
+    }
+
+    // It was stood by at this second, if that is not known yet.
+    fn begin(&mut self, at: u64, by: &Who)
+        ensures { seen.seen self.new ≡ seen.after_begin at by.now (seen.seen self.old) }
     {
         if self.begun.is_none() {
             self.begun = Some(Moment { at, by: *by });
         }
     }
 
-    /// It was given at this second, if that is not known yet.
-    pub fn give(&mut self, at: u64, by: &Who)
-        ensures { self.new ≡ spec.after_give at by.now self.old }
+    // It was given at this second, if that is not known yet.
+    fn give(&mut self, at: u64, by: &Who)
+        ensures { seen.seen self.new ≡ seen.after_give at by.now (seen.seen self.old) }
     {
         if self.given.is_none() {
             self.given = Some(Moment { at, by: *by });
@@ -255,9 +155,7 @@ impl Attempt {
 
     /// It was given up at this second, if that is not known yet.
     pub fn give_up(&mut self, at: u64, by: &Who, why: String)
-        ensures moment { self.new.given_up ≡ spec.first_moment self.old.given_up at by.now }
-        ensures why { self.new.why ≡ (if is_some self.old.given_up then self.old.why else why) }
-        ensures ended { self.new.ended ≡ self.old.ended }
+        ensures { seen.seen self.new ≡ seen.after_give_up at by.now (string_bytes why) (seen.seen self.old) }
     {
         if self.given_up.is_none() {
             self.given_up = Some(Moment { at, by: *by });
@@ -265,64 +163,105 @@ impl Attempt {
         }
     }
 
-    // The place of a device, if it is known here.
-    fn place_of(&self, device: DeviceNo) -> Option<usize> {
-        self.devices.iter().position(|x| x.device == device)
+    // What a device did is now this.
+    fn put(&mut self, course: &Course) -> Result<(), AllocError>
+        ensures { OnOk result (seen.seen self.new ≡
+            record (seen.seen self.old) { devices = seen.put_course course.now self.old.devices.items }) }
+    {
+        put_course(&mut self.devices, course)
     }
 
-    // What a device did; one that is not known here yet is added.
-    fn course_of(&mut self, device: DeviceNo) -> Result<Option<&mut Course>, AllocError> {
-        let place = match self.place_of(device) {
-            Some(place) => place,
-            None => {
-                self.devices.push(Course::new(device))?;
-                self.devices.len().saturating_sub(1)
-            }
-        };
-        Ok(self.devices.get_mut(place))
+    // An order to a device was sent: a first STANDBY begins the attempt, a first GO gives it.
+    fn begin_or_give(&mut self, kind: OrderKind, at: u64, by: &Who)
+        ensures { seen.seen self.new ≡ seen.by_order kind at by.now (seen.seen self.old) }
+    {
+        match kind {
+            OrderKind::Standby => self.begin(at, by),
+            OrderKind::Go => self.give(at, by),
+            OrderKind::Cancel => {}
+        }
     }
 
     /// An order was sent to a device of it, at this second.
-    pub fn order(
-        &mut self,
-        kind: OrderKind,
-        device: DeviceNo,
-        at: u64,
-        is_sent: bool,
-    ) -> Result<(), AllocError> {
-        if let Some(course) = self.course_of(device)? {
-            course.order(kind, at, is_sent);
-        }
-        Ok(())
+    #[tactic(auto, unfolding(crate::specs::Seen::after_ordered))]
+    pub fn order(&mut self, at: u64, by: &Who, ordered: &Ordered) -> Result<(), AllocError>
+        ensures { OnOk result (seen.seen self.new ≡ seen.after_ordered at by.now ordered.now (seen.seen self.old)) }
+    {
+        self.begin_or_give(ordered.kind, at, by);
+        let mut course = course_of(&self.devices, ordered.device);
+        course.order(ordered.kind, at, ordered.is_sent);
+        self.put(&course)
     }
 
-    /// A device stands by.
-    pub fn ready(&mut self, device: DeviceNo, at: u64) -> Result<(), AllocError> {
-        if let Some(course) = self.course_of(device)? {
-            course.stand_by(at);
-        }
-        Ok(())
+    // A device stands by.
+    fn ready(&mut self, device: DeviceNo, at: u64) -> Result<(), AllocError>
+        ensures { OnOk result (seen.seen self.new ≡
+            seen.with_course (spec.after_ready at) device (seen.seen self.old)) }
+    {
+        let mut course = course_of(&self.devices, device);
+        course.stand_by(at);
+        self.put(&course)
     }
 
-    /// A device has carried the cue out.
-    pub fn done(&mut self, device: DeviceNo, at: u64) -> Result<(), AllocError> {
-        if let Some(course) = self.course_of(device)? {
-            course.finish(at);
-        }
-        Ok(())
+    // A device has carried the cue out.
+    fn done(&mut self, device: DeviceNo, at: u64) -> Result<(), AllocError>
+        ensures { OnOk result (seen.seen self.new ≡
+            seen.with_course (spec.after_done at) device (seen.seen self.old)) }
+    {
+        let mut course = course_of(&self.devices, device);
+        course.finish(at);
+        self.put(&course)
     }
 
     /// This became of a device.
-    pub fn meet(&mut self, device: DeviceNo, fate: Fate) -> Result<(), AllocError> {
-        if let Some(course) = self.course_of(device)? {
-            course.fate = fate;
-        }
-        Ok(())
+    pub fn meet(&mut self, device: DeviceNo, fate: Fate) -> Result<(), AllocError>
+        ensures { OnOk result (seen.seen self.new ≡
+            seen.with_course (seen.after_fate fate) device (seen.seen self.old)) }
+    {
+        let mut course = course_of(&self.devices, device);
+        course.fate = fate;
+        self.put(&course)
     }
 
-    /// Whether the devices are asked to stand by, as far as the log says.
-    pub fn is_preparing(&self) -> bool
-        ensures { result ≡ spec.is_preparing self.now }
+    // This became of a device, if the attempt was not given up before.
+    fn fail(&mut self, device: DeviceNo, fate: Option<Fate>) -> Result<(), AllocError>
+        ensures { OnOk result (seen.seen self.new ≡ seen.after_failing fate device (seen.seen self.old)) }
+    {
+        match fate {
+            Some(fate) if self.given_up.is_none() => self.meet(device, fate),
+            _ => Ok(()),
+        }
+    }
+
+    // A device has answered, or was released.
+    fn take_word(&mut self, at: u64, word: DeviceVerb, device: DeviceNo) -> Result<(), AllocError>
+        ensures { OnOk result (seen.seen self.new ≡ seen.by_word at word device (seen.seen self.old)) }
+    {
+        match word {
+            DeviceVerb::StandingBy => self.ready(device, at),
+            DeviceVerb::Complete => self.done(device, at),
+            DeviceVerb::Cancelled | DeviceVerb::Remove => Ok(()),
+            DeviceVerb::Abort | DeviceVerb::Release => {
+                let fate = fate_by(word, self.is_preparing());
+                self.fail(device, fate)
+            }
+        }
+    }
+
+    /// A device has answered, or was released. What has ended stays as it is.
+    #[tactic(auto, unfolding(crate::specs::Seen::after_word))]
+    pub fn answer(&mut self, at: u64, word: DeviceVerb, device: DeviceNo) -> Result<(), AllocError>
+        ensures { OnOk result (seen.seen self.new ≡ seen.after_word at word device (seen.seen self.old)) }
+    {
+        if self.ended.is_some() {
+            return Ok(());
+        }
+        self.take_word(at, word, device)
+    }
+
+    // Whether the devices are asked to stand by, as far as the log says.
+    fn is_preparing(&self) -> bool
+        ensures { result ≡ seen.is_preparing (seen.seen self.now) }
     {
         self.given.is_none() && self.given_up.is_none() && self.ended.is_none()
     }

@@ -1,23 +1,20 @@
 //! The evening: what the lines of a log say together.
 mod asking;
 mod counting;
-mod ends;
 mod following;
 mod hearing;
 mod repeating;
 mod replies;
 
-use crate::attempt::{Attempt, Who};
+use crate::attempt::Who;
+use crate::attempts::Attempts;
 use crate::cutting::Cutter;
 use crate::dates::{Times, of_day};
 use crate::range::Range;
 use asking::Asking;
 pub use counting::{Totals, totals_of};
-use cue_show::DeviceNo;
-use cue_show::limits::MAX_DEVICES;
 use repeating::Repeats;
 use std::alloc::{AllocError, Global};
-use std::collections::BTreeMap;
 
 /// The most starts, stops and refusals that are kept, each; others are counted.
 const MOST: usize = 1_000;
@@ -104,24 +101,6 @@ impl<T: Drop> Kept<T> {
     }
 }
 
-/// For each device the place of the attempt that it is in, or was in last.
-#[derive(Drop)]
-struct Holders([Option<usize>; MAX_DEVICES]);
-
-impl Holders {
-    // A device is in the attempt at this place.
-    fn hold(&mut self, device: DeviceNo, place: usize) {
-        if let Some(holder) = self.0.get_mut(usize::from(device.number())) {
-            *holder = Some(place);
-        }
-    }
-
-    // The place of the attempt that a device is in.
-    fn holder(&self, device: DeviceNo) -> Option<usize> {
-        self.0.get(usize::from(device.number())).copied().flatten()
-    }
-}
-
 /// An evening, as far as its log was heard.
 #[derive(Drop)]
 pub struct Evening {
@@ -129,9 +108,6 @@ pub struct Evening {
     cutter: Cutter,
     repeats: Repeats,
     asking: Asking,
-    /// The newest attempt with each number, by its place.
-    latest: BTreeMap<u32, usize>,
-    holders: Holders,
     /// Whether `serve` runs, as far as the log says.
     is_running: bool,
     /// Whether the last line was one that stood there before.
@@ -144,7 +120,7 @@ pub struct Evening {
     pub first: Option<u64>,
     pub last: Option<u64>,
     pub deeds: Kept<Done>,
-    pub attempts: Vec<Attempt>,
+    pub attempts: Attempts,
     pub refusals: Kept<Refusal>,
     /// How many refusals there were, with those that the log counted and did not tell.
     pub refused: u64,
@@ -158,8 +134,6 @@ impl Evening {
             cutter: Cutter::new(alloc),
             repeats: Repeats::new(alloc),
             asking: Asking::new(alloc),
-            latest: BTreeMap::new(alloc),
-            holders: Holders([None; MAX_DEVICES]),
             is_running: false,
             is_repeating: false,
             ahead: 0,
@@ -173,7 +147,7 @@ impl Evening {
             first: None,
             last: None,
             deeds: Kept::new(alloc),
-            attempts: Vec::new(alloc),
+            attempts: Attempts::new(alloc),
             refusals: Kept::new(alloc),
             refused: 0,
         }

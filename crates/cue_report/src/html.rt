@@ -1,7 +1,8 @@
 //! The report as one page of HTML: it stands alone, has no script, and prints in black on white.
 mod style;
 
-use crate::attempt::{Attempt, Course};
+use crate::attempt::Attempt;
+use crate::course::Course;
 use crate::evening::{Evening, totals_of};
 use crate::names::Names;
 use crate::running::run_of;
@@ -133,7 +134,7 @@ pub fn head(alloc: Global, evening: &Evening, names: &Names<'_>) -> Result<Strin
     )?;
     push_title(alloc, &mut page, names)?;
     push_run(alloc, &mut page, evening, told_of(evening, names))?;
-    let counted = totals_words(alloc, totals_of(&evening.attempts))?;
+    let counted = totals_words(alloc, totals_of(evening.attempts.list()))?;
     push_element(
         &mut page,
         "<p class=\"totals\">",
@@ -146,7 +147,7 @@ pub fn head(alloc: Global, evening: &Evening, names: &Names<'_>) -> Result<Strin
     push_cues(alloc, &mut page, evening, told_of(evening, names))?;
     push_deeds(alloc, &mut page, evening, told_of(evening, names))?;
     push(&mut page, "<h2>Attempts</h2>\n")?;
-    if evening.attempts.is_empty() {
+    if evening.attempts.list().is_empty() {
         push(&mut page, "<p>none</p>\n")?;
     }
     Ok(page)
@@ -278,7 +279,7 @@ pub fn foot(alloc: Global, evening: &Evening, names: &Names<'_>) -> Result<Strin
     let mut page = String::new(alloc);
     push_refusals(alloc, &mut page, evening, told_of(evening, names))?;
     push_ungiven(alloc, &mut page, evening, names)?;
-    let counted = totals_words(alloc, totals_of(&evening.attempts))?;
+    let counted = totals_words(alloc, totals_of(evening.attempts.list()))?;
     push_element(
         &mut page,
         "<h2>Totals</h2>\n<p>",

@@ -22,10 +22,15 @@
 //! - Texts of the log and of the show file go through `shown_text` in both drawings, and through `cue_html` in the
 //!   page.
 //!
-//! Only tested: how the lines are laid out, and which text stands where.
+//! `attempts` takes a line at a time, and `specs/` says what that makes of what is told (`Seen` of one attempt,
+//! `Picture` of all).
+//!
+//! Only tested: which bytes are heard as lines, who asked, how the lines are laid out, and which text stands where.
 #![tactic(auto)]
 
 mod attempt;
+mod attempts;
+mod course;
 pub mod csv;
 mod cutting;
 mod dates;
@@ -41,7 +46,9 @@ pub mod text;
 mod ungiven;
 mod wrapping;
 
-pub use attempt::{Attempt, Course, Fate, Moment, Who, seconds_between};
+pub use attempt::{Attempt, Moment, Who};
+pub use attempts::Attempts;
+pub use course::{Course, Fate, seconds_between};
 pub use evening::Evening;
 pub use names::Names;
 pub use range::Range;

@@ -1,10 +1,12 @@
 //! What the report says, in words: the same in both drawings.
-ghost use Rattle.std.specs.Prelude.{◌≡◌};
+ghost use Rattle.std.specs.Prelude.{◌≡◌, IfOk, string_bytes};
+ghost use Rattle.cue_report.specs.Seen as seen;
 ghost use Rattle.cue_report.specs.Telling as spec;
 
 mod evening;
 
-use crate::attempt::{Attempt, Course, Ended, Fate, Moment, Who};
+use crate::attempt::{Attempt, Ended, Moment, Who};
+use crate::course::{Course, Fate};
 use crate::dates::Times;
 use crate::names::Names;
 use cue_log_lines::{Asked, Count, Why};
@@ -26,7 +28,9 @@ pub fn shown_bytes(alloc: Global, bytes: &[u8]) -> Result<String, AllocError> {
 }
 
 /// Why a preparation was given up: `device 3 aborted`.
-pub fn why_words(alloc: Global, why: Why) -> Result<String, AllocError> {
+pub fn why_words(alloc: Global, why: Why) -> Result<String, AllocError>
+    ensures { IfOk result (λ text. string_bytes text ≡ seen.why_words why) }
+{
     match why {
         Why::Aborted(device) => format!(in alloc; "device {} aborted", device.number()),
         Why::Released(device) => format!(in alloc; "device {} was released", device.number()),

@@ -83,7 +83,7 @@ pub fn tally_words(
         text.push_str(": not given")?;
         return Ok(text);
     };
-    if let Some(attempt) = evening.attempts.get(tally.last) {
+    if let Some(attempt) = evening.attempts.list().get(tally.last) {
         push_given(alloc, &mut text, told, attempt, tally.times)?;
     }
     Ok(text)

@@ -121,14 +121,14 @@ pub fn head(alloc: Global, evening: &Evening, names: &Names<'_>) -> Result<Strin
     push_line(
         &mut text,
         2,
-        totals_words(alloc, totals_of(&evening.attempts))?.as_str(),
+        totals_words(alloc, totals_of(evening.attempts.list()))?.as_str(),
     )?;
     push_line(&mut text, 2, times_note(alloc, evening)?.as_str())?;
     push_run(alloc, &mut text, evening, told_of(evening, names))?;
     push_cues(alloc, &mut text, evening, told_of(evening, names))?;
     push_deeds(alloc, &mut text, evening, told_of(evening, names))?;
     text.push_str("\nATTEMPTS\n")?;
-    if evening.attempts.is_empty() {
+    if evening.attempts.list().is_empty() {
         text.push_str("  none\n")?;
     }
     Ok(text)
@@ -229,7 +229,7 @@ pub fn foot(alloc: Global, evening: &Evening, names: &Names<'_>) -> Result<Strin
     push_line(
         &mut text,
         2,
-        totals_words(alloc, totals_of(&evening.attempts))?.as_str(),
+        totals_words(alloc, totals_of(evening.attempts.list()))?.as_str(),
     )?;
     let line = format!(in alloc; "{} refused", evening.refused)?;
     push_line(&mut text, 2, line.as_str())?;

@@ -1,7 +1,7 @@
 //! Who asks, and for what.
 use crate::attempt::Who;
 use cue_asker::AskerName;
-use cue_log_lines::{Asked, Ordered};
+use cue_log_lines::{Asked, Line, Ordered};
 use cue_operator::{CueVerb, DeviceVerb};
 use cue_show::limits::MAX_DEVICES;
 use cue_show::{CueNo, DeviceNo};
@@ -37,11 +37,19 @@ fn device_in(text: &[u8]) -> Option<DeviceNo> {
     DeviceNo::of(number)
 }
 
-/// What a device says at an address, or what is asked of it.
-pub fn word_at(address: &[u8]) -> Option<(DeviceVerb, DeviceNo)> {
+// What a device says at an address, or what is asked of it.
+fn word_at(address: &[u8]) -> Option<(DeviceVerb, DeviceNo)> {
     let (name, word) = parts_after(address, b"/device/")?;
     match (DeviceVerb::of(word), device_in(name)) {
         (Some(word), Some(device)) => Some((word, device)),
+        _ => None,
+    }
+}
+
+/// What a reply says that a device has answered, or that is asked of it, if it made something.
+pub fn answer_in(line: &Line<'_>) -> Option<(DeviceVerb, DeviceNo)> {
+    match line {
+        Line::Replied(reply, _) if reply.made != 0 => word_at(reply.address.bytes()),
         _ => None,
     }
 }

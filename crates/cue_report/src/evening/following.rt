@@ -1,9 +1,11 @@
 //! Follows what the lines say.
+use super::asking::answer_in;
 use super::{Deed, Done, Evening};
-use crate::attempt::{Attempt, Who};
+use crate::attempt::Who;
 use crate::reading::Said;
 use crate::sentences::shown_bytes;
-use cue_log_lines::{Line, OrderKind, Ordered, Try, write};
+use cue_log_lines::listed::found_in;
+use cue_log_lines::{Line, OrderKind, write};
 use cue_operator::CueVerb;
 use std::alloc::AllocError;
 
@@ -40,10 +42,25 @@ impl Evening {
         }
     }
 
+    // Who asked for what a line says.
+    fn asker_of(&self, at: u64, line: &Line<'_>) -> Who {
+        let (verb, cue) = match line {
+            Line::Ordered(ordered) => match ordered.kind {
+                OrderKind::Standby => (CueVerb::Standby, ordered.attempt.cue),
+                OrderKind::Go => (CueVerb::Go, ordered.attempt.cue),
+                OrderKind::Cancel => return Who::Unseen,
+            },
+            Line::GivenUp(attempt, _) => (CueVerb::Cancel, attempt.cue),
+            _ => return Who::Unseen,
+        };
+        self.asking.asker(verb, &cue, at)
+    }
+
     // Takes what a line of the log says that is no start.
     fn take_line(&mut self, at: u64, line: &Line<'_>) -> Result<(), AllocError> {
+        let by = self.asker_of(at, line);
+        self.attempts.take(at, &by, answer_in(line), line)?;
         match line {
-            Line::Ready { .. } => Ok(()),
             Line::Stopped => self.stop(at, Deed::Stopped),
             Line::Own(said) => self.tell(at, said.bytes()),
             Line::Recovered(list) => self.recover(at, list.bytes()),
@@ -53,13 +70,8 @@ impl Evening {
             }
             Line::Replied(reply, count) => self.reply(at, reply, *count),
             Line::Kinds(count) => self.count(at, *count),
-            Line::Ordered(ordered) => self.order(at, ordered),
-            Line::Alone(attempt, _) => {
-                let _ = self.place_of(attempt, at)?;
-                Ok(())
-            }
-            Line::GivenUp(attempt, why) => self.give_up(at, attempt, *why),
-            Line::Ended(end) => self.end(at, end),
+            Line::Ordered(ordered) => self.asking.order(ordered),
+            Line::Ready { .. } | Line::Alone(_, _) | Line::GivenUp(_, _) | Line::Ended(_) => Ok(()),
         }
     }
 
@@ -88,70 +100,13 @@ impl Evening {
         self.deeds.push(Done { at, deed })
     }
 
-    // The place of an attempt that a line of this second names. One that is not there yet is added: also if an attempt
-    // of an older store had its number and has ended.
-    pub(super) fn place_of(&mut self, attempt: &Try, at: u64) -> Result<usize, AllocError> {
-        if let Some(place) = self.latest.get(&attempt.number).copied() {
-            if self.is_same(place, attempt, at) {
-                return Ok(place);
-            }
+    // `serve` says what was live when it began.
+    fn recover(&mut self, at: u64, list: &[u8]) -> Result<(), AllocError> {
+        for said in list.split(|byte| *byte == b';') {
+            self.attempts.take_found(at, found_in(said.trim_ascii()))?;
         }
-        self.add(attempt)
-    }
-
-    // Whether the attempt at a place is the one that a line of this second names: not, if it had ended before that or
-    // has another cue.
-    fn is_same(&self, place: usize, attempt: &Try, at: u64) -> bool {
-        match self.attempts.get(place) {
-            Some(known) => {
-                let is_over = match known.ended {
-                    Some(ended) => ended.at < at,
-                    None => false,
-                };
-                let has_other = match (known.cue, attempt.cue) {
-                    (Some(one), Some(other)) => one != other,
-                    _ => false,
-                };
-                !is_over && !has_other
-            }
-            None => false,
-        }
-    }
-
-    // Adds an attempt, and answers its place.
-    fn add(&mut self, attempt: &Try) -> Result<usize, AllocError> {
-        let place = self.attempts.len();
-        let added = Attempt::new(self.alloc, attempt);
-        self.attempts.push(added)?;
-        let _ = self.latest.insert(attempt.number, place)?;
-        Ok(place)
-    }
-
-    // Who asked for an order.
-    fn asker_of(&self, at: u64, ordered: &Ordered) -> Who {
-        match ordered.kind {
-            OrderKind::Standby => self
-                .asking
-                .asker(CueVerb::Standby, &ordered.attempt.cue, at),
-            OrderKind::Go => self.asking.asker(CueVerb::Go, &ordered.attempt.cue, at),
-            OrderKind::Cancel => Who::Unseen,
-        }
-    }
-
-    // An order was sent.
-    fn order(&mut self, at: u64, ordered: &Ordered) -> Result<(), AllocError> {
-        self.asking.order(ordered)?;
-        let place = self.place_of(&ordered.attempt, at)?;
-        let by = self.asker_of(at, ordered);
-        if let Some(attempt) = self.attempts.get_mut(place) {
-            match ordered.kind {
-                OrderKind::Standby => attempt.begin(at, &by),
-                OrderKind::Go => attempt.give(at, &by),
-                OrderKind::Cancel => {}
-            }
-            attempt.order(ordered.kind, ordered.device, at, ordered.is_sent)?;
-        }
-        self.holders.hold(ordered.device, place);
-        Ok(())
+        let text = shown_bytes(self.alloc, list)?;
+        let deed = Deed::Said(format!(in self.alloc; "recovered: {}", text.as_str())?);
+        self.deeds.push(Done { at, deed })
     }
 }

@@ -2,28 +2,12 @@
 ghost use Rattle.std.specs.Prelude.{◌≡◌};
 ghost use Rattle.cue_report.specs.Following as spec;
 
-use super::asking::{name_at, verb_at, word_at};
+use super::asking::{name_at, verb_at};
 use super::{Evening, Refusal};
-use crate::attempt::{Fate, Who};
+use crate::attempt::Who;
 use crate::sentences::{counted_words, refused_words, shown_bytes};
 use cue_log_lines::{Asked, Count, Refused};
-use cue_operator::DeviceVerb;
-use cue_show::DeviceNo;
 use std::alloc::AllocError;
-
-// What becomes of a device that aborts or is released.
-fn fate_by(word: DeviceVerb, is_preparing: bool) -> Option<Fate>
-    ensures { result ≡ spec.fate_by word is_preparing }
-{
-    match (word, is_preparing) {
-        (DeviceVerb::Abort, true) => Some(Fate::AbortedEarly),
-        (DeviceVerb::Abort, false) => Some(Fate::Aborted),
-        (DeviceVerb::Release, true) => Some(Fate::ReleasedEarly),
-        (DeviceVerb::Release, false) => Some(Fate::Released),
-        (DeviceVerb::StandingBy | DeviceVerb::Complete, _) => None,
-        (DeviceVerb::Cancelled | DeviceVerb::Remove, _) => None,
-    }
-}
 
 // For how many replies a line stands.
 fn times_of(count: Option<Count>) -> u64
@@ -56,10 +40,7 @@ impl Evening {
         if let Some((verb, cue)) = verb_at(reply.address.bytes()) {
             return self.asking.made(verb, cue, at, &by);
         }
-        match word_at(reply.address.bytes()) {
-            Some((word, device)) => self.hear_device(at, word, device),
-            None => Ok(()),
-        }
+        Ok(())
     }
 
     // Counts a refusal that stands for so many; answers whether there is room to keep it.
@@ -103,37 +84,5 @@ impl Evening {
             why: counted_words(self.alloc, count)?,
         };
         self.refusals.push(refusal)
-    }
-
-    // A device has answered, or was released. What it says counts for the attempt that it is in.
-    fn hear_device(
-        &mut self,
-        at: u64,
-        word: DeviceVerb,
-        device: DeviceNo,
-    ) -> Result<(), AllocError> {
-        let Some(place) = self.holders.holder(device) else {
-            return Ok(());
-        };
-        let Some(attempt) = self.attempts.get_mut(place) else {
-            return Ok(());
-        };
-        if attempt.ended.is_some() {
-            return Ok(());
-        }
-        match word {
-            DeviceVerb::StandingBy => attempt.ready(device, at),
-            DeviceVerb::Complete => attempt.done(device, at),
-            DeviceVerb::Cancelled | DeviceVerb::Remove => Ok(()),
-            DeviceVerb::Abort | DeviceVerb::Release => {
-                if attempt.given_up.is_some() {
-                    return Ok(());
-                }
-                match fate_by(word, attempt.is_preparing()) {
-                    Some(fate) => attempt.meet(device, fate),
-                    None => Ok(()),
-                }
-            }
-        }
     }
 }

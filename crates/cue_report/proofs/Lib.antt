@@ -1,2 +1,3 @@
 pub mod FailureLemmas
+pub mod LawLemmas
 pub mod PlaceLemmas

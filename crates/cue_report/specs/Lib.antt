@@ -1,4 +1,5 @@
 pub mod Following
+pub mod Laws
 pub mod Picture
 pub mod Range
 pub mod Running

@@ -23,7 +23,7 @@
 //!   page.
 //!
 //! `attempts` takes a line at a time, and `specs/` says what that makes of what is told (`Seen` of one attempt,
-//! `Picture` of all).
+//! `Picture` of all). `laws` says what may be told after any lines.
 //!
 //! Only tested: which bytes are heard as lines, who asked, how the lines are laid out, and which text stands where.
 #![tactic(auto)]
@@ -36,6 +36,7 @@ mod cutting;
 mod dates;
 mod evening;
 pub mod html;
+pub mod laws;
 mod names;
 mod range;
 mod reading;

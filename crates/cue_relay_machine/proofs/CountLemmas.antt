@@ -1,0 +1,221 @@
+-- What a life counts.
+use Rattle.std.proofs.Common.{◌≡◌, ℕ, suc, ◌+◌, ◌-◌, ◌<◌, ◌≤◌, ◌^◌, Bool, true, false, cond, List, [], ◌∷◌, ◌++◌}
+use Rattle.std.proofs.Common.{length, map}
+use Rattle.std.proofs.Common.{Option, Some, None, refl, sym, ap, ◌∙◌, subst, arith, length-append}
+use Rattle.std.specs.Prelude.{count_by, drop, get_or, slice_get, nat_lt}
+use Rattle.std.proofs.lemmas.Bool.{lt-ltb}
+use Rattle.std.proofs.lemmas.List.{map-append}
+use Rattle.std.proofs.lemmas.List.Sums.{sum_by-append}
+use Rattle.cue_machine.specs.declared.address.Address as machine
+use Rattle.cue_machine.specs.declared.ears.Input.{Input}
+use Rattle.cue_machine.specs.declared.ears.Input.TheVariants as input
+use Rattle.cue_machine.specs.declared.post.Output.{Output}
+use Rattle.cue_machine.specs.declared.post.Output.TheVariants as output
+use Rattle.cue_machine.specs.Living.{AreTurns, IsTurn, Turn, after_loss_of, after_losses, all_posted}
+use Rattle.cue_machine.specs.Posting.{Given, Posted, given_as, given_of, posted_as}
+use Rattle.cue_relay.specs.declared.going.Going.{Going}
+use Rattle.cue_relay.specs.declared.relaying.Counts.{Counts}
+use Rattle.cue_relay.specs.Relayed.{goes_on, is_datagram}
+use Rattle.cue_relay.specs.Sources.{Answer, comes, ticks, ends, fails}
+use Rattle.cue_relay.specs.Wires.{Sending}
+use Rattle.cue_relay_machine.specs.declared.books.Books.{Books}
+use Rattle.cue_relay_machine.specs.declared.known.Known.{Known}
+use Rattle.cue_relay_machine.specs.declared.machine.RelayMachine.{RelayMachine}
+use Rattle.cue_relay_machine.specs.Books.{counted, highest, is_due, one_dropped, one_lost, one_passed}
+use Rattle.cue_relay_machine.specs.Laws.{Adds, CountsAll, HadTurns, is_lost_sending, total}
+use Rattle.cue_relay_machine.specs.Lives.{answer_as, answer_of, handed_in, relay_machine, sending_as, sendings}
+use Rattle.cue_relay_machine.specs.Places.{across_from, machine_address, opening_at}
+use Rattle.cue_relay_machine.specs.Steps.{State, Steps, after_loss, books_after, came, gives, going_given, state_of}
+use Rattle.cue_relay_machine.specs.Steps.{state_then, state_ticked, tick_given, told_given}
+use Rattle.cue_relay_machine.proofs.LifeLemmas.{none_if, sendings_both, tick_none, told_none}
+
+count_both : (xs ys : List Posted)
+    → count_by is_lost_sending (xs ++ ys) ≡ count_by is_lost_sending xs + count_by is_lost_sending ys
+count_both xs ys = sum_by-append (λ x. cond (is_lost_sending x) 1 0) xs ys
+
+counted_is : (n : ℕ) → n < highest → counted n ≡ n + 1
+counted_is n h = rw (lt-ltb n highest h) refl
+
+-- ---- what is no datagram
+
+nil_parts : (xs ys : List Sending) → xs ++ ys ≡ [] → (xs ≡ []) × (ys ≡ [])
+nil_parts [] ys e = (refl, e)
+nil_parts (x ∷ xs) ys e = absurd (omega (arith, ap length e))
+
+-- the counts stay, and nothing of it counts as lost
+abbrev IsQuiet : RelayMachine → List Posted → Type 0
+IsQuiet m ps =
+    ((after_losses after_loss ps m).books.counts ≡ m.books.counts) × (count_by is_lost_sending ps ≡ 0)
+
+quiet_one : (o : Output) (bytes : List ℕ) (lost : Bool) (m : RelayMachine) → sending_as o bytes ≡ []
+    → IsQuiet m (record { given = record { output = o; bytes = bytes }; lost = lost } ∷ [])
+quiet_one (output.Send by to) bytes lost m e = absurd (omega (arith, ap length e))
+quiet_one output.Print bytes true m e = (refl, refl)
+quiet_one output.Print bytes false m e = (refl, refl)
+quiet_one output.Say bytes true m e = (refl, refl)
+quiet_one output.Say bytes false m e = (refl, refl)
+quiet_one output.Replace bytes true m e = (refl, refl)
+quiet_one output.Replace bytes false m e = (refl, refl)
+
+quiet : (ps : List Posted) (m : RelayMachine) → sendings (map given_of ps) ≡ [] → IsQuiet m ps
+quiet [] m e = (refl, refl)
+quiet (p ∷ ps) m e =
+    let parts = nil_parts (sending_as p.given.output p.given.bytes) (sendings (map given_of ps)) e in
+    let one = quiet_one p.given.output p.given.bytes p.lost m parts.0 in
+    let more = quiet ps (after_loss_of after_loss p m) parts.1 in
+    (more.0 ∙ one.0, omega (arith, more.1, one.1, count_both (p ∷ []) ps))
+
+-- ---- a datagram
+
+-- it is dropped, and nothing is posted
+drops : (m mid : RelayMachine) (ps : List Posted) → total m.books.counts < highest → map given_of ps ≡ []
+    → mid.books ≡ one_dropped m.books → Adds m.books.counts (after_losses after_loss ps mid).books.counts 1 ps
+drops m mid [] fits e f =
+    let more : counted m.books.counts.dropped ≡ m.books.counts.dropped + 1 =
+    counted_is m.books.counts.dropped (omega (arith, fits)) in
+    rw f (omega arith, omega arith, omega (arith, more))
+drops m mid (p ∷ ps) fits e f = absurd (omega (arith, ap length e))
+
+-- the datagram itself, once it was counted
+sent_one : (b : Books) (by : ℕ) (to : machine.Address) (lost : Bool) → total b.counts < highest
+    → let d = (cond lost (one_lost (one_passed b) (output.Send by to)) (one_passed b)).counts in
+    (d.lost ≡ b.counts.lost + cond lost 1 0) × (d.passed + d.lost ≡ b.counts.passed + b.counts.lost + 1)
+    × (total d ≡ total b.counts + 1)
+sent_one b by to true fits =
+    let lost = counted_is b.counts.lost (omega (arith, fits)) in
+    let passed = counted_is b.counts.passed (omega (arith, fits)) in
+    (lost, omega (arith, lost, passed), omega (arith, lost, passed))
+sent_one b by to false fits =
+    let passed = counted_is b.counts.passed (omega (arith, fits)) in
+    (omega arith, omega (arith, passed), omega (arith, passed))
+
+lossy_books : (m : RelayMachine) (x : Output) (b : Bool)
+    → (cond b (after_loss m x) m).books ≡ cond b (one_lost m.books x) m.books
+lossy_books m x true = refl
+lossy_books m x false = refl
+
+lost_one : (by : ℕ) (to : machine.Address) (bytes : List ℕ) (lost : Bool)
+    → count_by is_lost_sending (posted_as (output.Send by to) bytes lost ∷ []) ≡ cond lost 1 0
+lost_one by to bytes true = refl
+lost_one by to bytes false = refl
+
+-- it goes on, and of what else was posted nothing is a datagram
+going_one : (m mid : RelayMachine) (by : ℕ) (to : machine.Address) (bytes : List ℕ) (lost : Bool) (ps : List Posted)
+    → total m.books.counts < highest → sendings (map given_of ps) ≡ [] → mid.books ≡ one_passed m.books
+    → Adds m.books.counts
+    (after_losses after_loss (posted_as (output.Send by to) bytes lost ∷ ps) mid).books.counts 1
+    (posted_as (output.Send by to) bytes lost ∷ ps)
+going_one m mid by to bytes lost ps fits none f =
+    let p : Posted = posted_as (output.Send by to) bytes lost in
+    let q = quiet ps (after_loss_of after_loss p mid) none in
+    let base : (after_loss_of after_loss p mid).books.counts
+    ≡ (cond lost (one_lost (one_passed m.books) (output.Send by to)) (one_passed m.books)).counts =
+    ap (λ (b : Books). b.counts) (lossy_books mid (output.Send by to) lost)
+    ∙ ap (λ (b : Books). (cond lost (one_lost b (output.Send by to)) b).counts) f in
+    let one = sent_one m.books by to lost fits in
+    let lost_all : count_by is_lost_sending (p ∷ ps) ≡ cond lost 1 0 =
+    omega (arith, count_both (p ∷ []) ps, lost_one by to bytes lost, q.1) in
+    let sent_all : length (sendings (map given_of (p ∷ ps))) ≡ 1 = ap suc (ap length none) in
+    rw (q.0 ∙ base) (
+      omega (arith, one.0, lost_all),
+      omega (arith, one.1, sent_all),
+      omega (arith, one.2),
+    )
+
+going_adds : (m mid : RelayMachine) (date : List ℕ) (known : List Known) (at : ℕ) (bytes : List ℕ) (o : Option Going)
+    (ps : List Posted)
+    → total m.books.counts < highest → map given_of ps ≡ going_given date known at bytes o
+    → mid.books ≡ books_after m.books o
+    → Adds m.books.counts (after_losses after_loss ps mid).books.counts 1 ps
+going_adds m mid date known at bytes None ps fits e f = drops m mid ps fits e f
+going_adds m mid date known at bytes (Some g) [] fits e f = absurd (omega (arith, ap length e))
+going_adds m mid date known at bytes (Some g) (p ∷ ps) fits e f =
+    let send : Given = given_as (output.Send (across_from at) (machine_address g.way.to)) bytes in
+    let first : p.given ≡ send = ap (λ (gs : List Given). get_or gs 0 send) e in
+    let rest : map given_of ps ≡ told_given date (slice_get known (opening_at at).route) g.message = ap (drop 1) e in
+    let none : sendings (map given_of ps) ≡ [] =
+    ap sendings rest ∙ told_none date (slice_get known (opening_at at).route) g.message in
+    let same : p ≡ record { given = send; lost = p.lost } =
+    ap (λ (x : Given). record { given = x; lost = p.lost }) first in
+    subst (λ (x : Posted). Adds m.books.counts (after_losses after_loss (x ∷ ps) mid).books.counts 1 (x ∷ ps))
+    (sym same)
+    (going_one m mid (across_from at) (machine_address g.way.to) bytes p.lost ps fits none f)
+
+-- ---- turns
+
+quiet_adds : (m mid : RelayMachine) (ps : List Posted) → sendings (map given_of ps) ≡ []
+    → mid.books.counts ≡ m.books.counts → Adds m.books.counts (after_losses after_loss ps mid).books.counts 0 ps
+quiet_adds m mid ps none e =
+    let q = quiet ps mid none in
+    rw (q.0 ∙ e) (omega (arith, q.1), omega (arith, ap length none), omega arith)
+
+ticked_counts : (s : State) (now : ℕ) (b : Bool) → (cond b (state_ticked s now) s).books.counts ≡ s.books.counts
+ticked_counts s now true = refl
+ticked_counts s now false = refl
+
+turn_adds : (m mid : RelayMachine) (now : ℕ) (i : Input) (bytes : List ℕ) (ps : List Posted) (date : List ℕ)
+    → total m.books.counts < highest → map given_of ps ≡ gives date (state_of m) now i bytes
+    → state_of mid ≡ state_then (state_of m) now i bytes
+    → Adds m.books.counts (after_losses after_loss ps mid).books.counts
+    (count_by is_datagram (answer_as now i bytes ∷ [])) ps
+turn_adds m mid now (input.Datagram at from) bytes ps date fits e f =
+    going_adds m mid date m.known.items at bytes (goes_on m.relay m.meters.items (came now at from bytes)) ps fits e
+    (ap (λ (s : State). s.books) f)
+turn_adds m mid now (input.Refused at) bytes ps date fits e f =
+    quiet_adds m mid ps (ap sendings e) (ap (λ (s : State). s.books.counts) f)
+turn_adds m mid now input.Wake bytes ps date fits e f =
+    quiet_adds m mid ps
+    (ap sendings e ∙ none_if (is_due m.books now) (tick_given date (state_of m) now) (tick_none date (state_of m) now))
+    (ap (λ (s : State). s.books.counts) f ∙ ticked_counts (state_of m) now (is_due m.books now))
+
+length_both : (xs ys : List Posted) → length (sendings (map given_of (xs ++ ys)))
+    ≡ length (sendings (map given_of xs)) + length (sendings (map given_of ys))
+length_both xs ys =
+    ap length (ap sendings (map-append given_of xs ys) ∙ sendings_both (map given_of xs) (map given_of ys))
+    ∙ length-append (sendings (map given_of xs)) (sendings (map given_of ys))
+
+came_both : (a : Answer) (more : List Answer)
+    → count_by is_datagram (a ∷ more) ≡ count_by is_datagram (a ∷ []) + count_by is_datagram more
+came_both a more = sum_by-append (λ x. cond (is_datagram x) 1 0) (a ∷ []) more
+
+came_at_most : (a : Answer) → count_by is_datagram (a ∷ []) ≤ 1
+came_at_most (comes now at from bytes) = omega arith
+came_at_most (ticks now) = omega arith
+came_at_most ends = omega arith
+came_at_most fails = omega arith
+
+turns_add : (m : RelayMachine) (ts : List Turn) (m_then : RelayMachine) → AreTurns relay_machine m ts m_then
+    → total m.books.counts + length ts ≤ highest
+    → Adds m.books.counts m_then.books.counts (count_by is_datagram (map answer_of ts)) (all_posted ts)
+turns_add m [] m_then h fits = rw h (omega arith, omega arith, omega arith)
+turns_add m (t ∷ ts) m_then h fits =
+    let step = h.1.stepped in
+    let less : total m.books.counts < highest = omega (arith, fits) in
+    let one : Adds m.books.counts h.0.books.counts (count_by is_datagram (answer_of t ∷ [])) t.posted =
+    subst (λ (x : RelayMachine). Adds m.books.counts x.books.counts (count_by is_datagram (answer_of t ∷ [])) t.posted)
+    (sym h.1.after)
+    (turn_adds m h.1.mid t.heard.now t.heard.input t.heard.bytes t.posted step.date less step.gave step.left) in
+    let room : total h.0.books.counts + length ts ≤ highest =
+    omega (arith, fits, one.2, came_at_most (answer_of t)) in
+    let more = turns_add h.0 ts m_then h.2 room in
+    let lost : count_by is_lost_sending (all_posted (t ∷ ts))
+    ≡ count_by is_lost_sending t.posted + count_by is_lost_sending (all_posted ts) =
+    count_both t.posted (all_posted ts) in
+    let sent : length (sendings (map given_of (all_posted (t ∷ ts))))
+    ≡ length (sendings (map given_of t.posted)) + length (sendings (map given_of (all_posted ts))) =
+    length_both t.posted (all_posted ts) in
+    let came : count_by is_datagram (map answer_of (t ∷ ts))
+    ≡ count_by is_datagram (answer_of t ∷ []) + count_by is_datagram (map answer_of ts) =
+    came_both (answer_of t) (map answer_of ts) in (
+      omega (arith, one.0, more.0, lost),
+      omega (arith, one.1, more.1, sent),
+      omega (arith, one.2, more.2, came),
+    )
+
+pub counts-all : CountsAll
+counts-all m ts m_then h fits =
+    let none : Counts = record { passed = 0; lost = 0; dropped = 0 } in
+    let start : m.books.counts ≡ none = ap (λ (s : State). s.books.counts) h.new in
+    let room : total m.books.counts + length ts ≤ highest = omega (arith, fits, ap total start) in
+    subst (λ (c : Counts). Adds c m_then.books.counts (count_by is_datagram (map answer_of ts)) (all_posted ts)) start
+    (turns_add m ts m_then h.turns room)

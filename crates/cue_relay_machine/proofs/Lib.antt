@@ -1,0 +1,4 @@
+pub mod CountLemmas
+pub mod LawLemmas
+pub mod LifeLemmas
+pub mod StepLemmas

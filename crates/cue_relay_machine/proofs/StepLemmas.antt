@@ -1,0 +1,153 @@
+-- What a step gives.
+use Rattle.std.proofs.Common.{◌≡◌, ℕ, Bool, true, false, cond, List, [], ◌∷◌, ◌++◌, Option, Some, None, refl, sym, ap}
+use Rattle.std.proofs.Common.{◌∙◌}
+use Rattle.std.proofs.Common.{◌≤◌, ◌<◌, length, append-nil}
+use Rattle.std.specs.Prelude.{get_or, is_some, slice_get}
+use Rattle.std.proofs.lemmas.Option.{slice_get_past, slice_get_read}
+use Rattle.cue_machine.specs.declared.address.Address as machine
+use Rattle.cue_machine.specs.declared.ears.Input.TheVariants as input
+use Rattle.cue_machine.specs.Hearing.{heard_as}
+use Rattle.cue_machine.specs.Posting.{Given}
+use Rattle.cue_relay.specs.declared.going.Going.{Going}
+use Rattle.cue_relay.specs.declared.messages.Message.{Message}
+use Rattle.cue_relay.specs.declared.relaying.Relay.{Relay}
+use Rattle.cue_relay.specs.Hearing.{told_of_message}
+use Rattle.cue_relay.specs.Rates.{admits, meters_after}
+use Rattle.cue_relay.specs.Relayed.{goes_on, times_then, way_and_message}
+use Rattle.cue_relay_machine.specs.declared.books.Books.{Books}
+use Rattle.cue_relay_machine.specs.declared.known.Known.{Known}
+use Rattle.cue_relay_machine.specs.Books.{one_dropped, one_passed}
+use Rattle.cue_relay_machine.specs.Places.{opening_at, relay_address}
+use Rattle.cue_relay_machine.specs.Steps.{State, Steps, books_after, came, going_given, known_after, news_given}
+use Rattle.cue_relay_machine.specs.Steps.{told_given}
+use Rattle.cue_relay_machine.specs.Texts.{take_at}
+
+-- what is left of a datagram that would go on so, once it was asked whether it goes on now
+abbrev pub state_taken : State → ℕ → ℕ → (would goes : Option Going) → State
+state_taken s now at would goes = record {
+  relay = s.relay;
+  file = s.file;
+  meters = cond (is_some would) (meters_after s.meters (opening_at at) now) s.meters;
+  known = known_after s.known at now goes;
+  books = books_after s.books goes;
+}
+
+pub taken : (s : State) (now at : ℕ) (from : machine.Address) (bytes : List ℕ) (would : Option Going) (b : Bool)
+    (date : List ℕ) (given : List Given) (s_then : State)
+    → way_and_message s.relay (opening_at at) (relay_address from) bytes ≡ would
+    → admits s.meters (opening_at at) now ≡ b → given ≡ going_given date s.known at bytes (cond b would None)
+    → s_then ≡ state_taken s now at would (cond b would None)
+    → Steps s (heard_as now (input.Datagram at from) bytes) given s_then
+taken s now at from bytes would b date given s_then e f g h =
+    let meters = s.meters in
+    let goes : goes_on s.relay meters (came now at from bytes) ≡ cond b would None =
+    ap (λ (o : Option Going). cond (admits meters (opening_at at) now) o None) e
+    ∙ ap (λ (c : Bool). cond c would None) f in
+    let times : times_then s.relay meters (came now at from bytes)
+    ≡ cond (is_some would) (meters_after meters (opening_at at) now) meters =
+    ap (λ (o : Option Going). cond (is_some o) (meters_after meters (opening_at at) now) meters) e in
+    record {
+      date = date;
+      gave = g ∙ sym (ap (going_given date s.known at bytes) goes);
+      left = h ∙ sym (ap (λ (m : List (List ℕ)). record {
+        relay = s.relay;
+        file = s.file;
+        meters = m;
+        known = known_after s.known at now (goes_on s.relay meters (came now at from bytes));
+        books = books_after s.books (goes_on s.relay meters (came now at from bytes));
+      }) times
+          ∙ ap (λ (o : Option Going). state_taken s now at would o) goes);
+    }
+
+none_either : (b : Bool) → cond {A = Option Going} b None None ≡ None
+none_either true = refl
+none_either false = refl
+
+-- no way leads on: nothing is given, and it is dropped
+pub dropped : (s : State) (now at : ℕ) (from : machine.Address) (bytes : List ℕ) (given : List Given) (s_then : State)
+    → way_and_message s.relay (opening_at at) (relay_address from) bytes ≡ None → given ≡ []
+    → s_then ≡ state_taken s now at None None
+    → Steps s (heard_as now (input.Datagram at from) bytes) given s_then
+dropped s now at from bytes given s_then e g h =
+    let b : Bool = admits s.meters (opening_at at) now in
+    taken s now at from bytes None b [] given s_then e refl
+    (g ∙ sym (ap (going_given [] s.known at bytes) (none_either b)))
+    (h ∙ sym (ap (state_taken s now at None) (none_either b)))
+
+-- what is left of a datagram to which a way leads on, by whether it goes on now
+abbrev pub state_settled : State → ℕ → ℕ → Going → Bool → State
+state_settled s now at g goes = record {
+  relay = s.relay;
+  file = s.file;
+  meters = meters_after s.meters (opening_at at) now;
+  known = cond goes (take_at s.known (opening_at at).route g.message now) s.known;
+  books = cond goes (one_passed s.books) (one_dropped s.books);
+}
+
+-- a way leads on: it goes on now, or all that was to be given for it is taken back
+pub settled : (s : State) (now at : ℕ) (from : machine.Address) (bytes : List ℕ) (g : Going) (goes : Bool)
+    (date : List ℕ) (mid given : List Given) (s_then : State)
+    → way_and_message s.relay (opening_at at) (relay_address from) bytes ≡ Some g
+    → admits s.meters (opening_at at) now ≡ goes → mid ≡ going_given date s.known at bytes (Some g)
+    → given ≡ cond goes mid [] → s_then ≡ state_settled s now at g goes
+    → Steps s (heard_as now (input.Datagram at from) bytes) given s_then
+settled s now at from bytes g true date mid given s_then e f k l h =
+    taken s now at from bytes (Some g) true date given s_then e f (l ∙ k) h
+settled s now at from bytes g false date mid given s_then e f k l h =
+    taken s now at from bytes (Some g) false date given s_then e f l h
+
+-- a change of each part is a change of the whole
+pub settled_parts : (s s_then : State) (now at : ℕ) (g : Going) (goes : Bool) → s_then.relay ≡ s.relay
+    → s_then.file ≡ s.file → s_then.meters ≡ meters_after s.meters (opening_at at) now
+    → s_then.known ≡ cond goes (take_at s.known (opening_at at).route g.message now) s.known
+    → s_then.books ≡ cond goes (one_passed s.books) (one_dropped s.books) → s_then ≡ state_settled s now at g goes
+settled_parts s s_then now at g goes a b m k c =
+    ap (λ (r : Relay). record {
+      relay = r;
+      file = s_then.file;
+      meters = s_then.meters;
+      known = s_then.known;
+      books = s_then.books;
+    }) a
+    ∙ (ap (λ (f : Option (List ℕ)). record {
+      relay = s.relay;
+      file = f;
+      meters = s_then.meters;
+      known = s_then.known;
+      books = s_then.books;
+    }) b
+    ∙ (ap (λ (x : List (List ℕ)). record {
+      relay = s.relay;
+      file = s.file;
+      meters = x;
+      known = s_then.known;
+      books = s_then.books;
+    }) m
+    ∙ (ap (λ (x : List Known). record {
+      relay = s.relay;
+      file = s.file;
+      meters = meters_after s.meters (opening_at at) now;
+      known = x;
+      books = s_then.books;
+    }) k
+    ∙ ap (λ (x : Books). record {
+      relay = s.relay;
+      file = s.file;
+      meters = meters_after s.meters (opening_at at) now;
+      known = cond goes (take_at s.known (opening_at at).route g.message now) s.known;
+      books = x;
+    }) c)))
+
+-- ---- what is said of a device
+
+pub nothing_told : (date : List ℕ) (known : List Known) (route : ℕ) (m : Message) (xs : List Given)
+    → length known ≤ route → xs ≡ xs ++ told_given date (slice_get known route) m
+nothing_told date known route m xs past =
+    sym (ap (λ (o : Option Known). xs ++ told_given date o m) (slice_get_past known route past) ∙ append-nil xs)
+
+pub something_told : (date : List ℕ) (known : List Known) (route : ℕ) (m : Message) (xs ys : List Given) (k : Known)
+    → route < length known → k ≡ get_or known route k → ys ≡ xs ++ news_given date k (told_of_message k.contact m)
+    → ys ≡ xs ++ told_given date (slice_get known route) m
+something_told date known route m xs ys k within is e =
+    e ∙ sym (ap (λ (o : Option Known). xs ++ told_given date o m)
+    (slice_get_read known (length known) route k refl within is))

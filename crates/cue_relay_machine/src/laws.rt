@@ -1,0 +1,43 @@
+//! What every life of a relay comes to, whatever comes. Each contract is a theorem; there is nothing to run.
+ghost use Rattle.std.specs.Prelude.{◌≡◌};
+ghost use Rattle.cue_relay_machine.specs.Laws.{CountsAll, HandsAtARate, HandsOn, HandsOnlyAnswers, HandsOnlyOrders};
+ghost use Rattle.cue_relay_machine.specs.declared.books.TheConstants.{DROPPED_PAUSE, TICK};
+ghost use Rattle.cue_relay_machine.specs.declared.living.TheConstants.{MAX_RECEIVED};
+
+/// Of all that came, what was handed on is what the definition of the relay makes of it: each datagram that goes on
+/// once, in order, with its own bytes, and nothing else.
+pub fn hands_on()
+    ensures { HandsOn }
+{}
+
+/// What is handed to the controller is one of the four answers, of the device of its route and with the number of an
+/// attempt. It came from the device's own address, at the device's own local port, with the same bytes.
+pub fn hands_only_answers()
+    ensures { HandsOnlyAnswers }
+{}
+
+/// What is handed to the stage came from the controller, and is a reply or an order to the device at whose local port
+/// it came. It is for that device's address.
+pub fn hands_only_orders()
+    ensures { HandsOnlyOrders }
+{}
+
+/// Of what is handed to the controller from one device, each comes a second after the hundredth before it or later,
+/// unless the clock was put back between the two.
+pub fn hands_at_a_rate()
+    ensures { HandsAtARate }
+{}
+
+/// The counts of a relay are those of its whole life: what was handed on and left, what was handed on and lost, and
+/// what was dropped. Each datagram is counted once.
+pub fn counts_all()
+    ensures { CountsAll }
+{}
+
+/// A status goes out each 100 milliseconds, and at most each 10,000 it is said how many were dropped. At most 4,100
+/// bytes of a datagram are read.
+pub fn limits()
+    ensures tick { TICK ≡ 100 }
+    ensures dropped { DROPPED_PAUSE ≡ 10000 }
+    ensures buffer { MAX_RECEIVED ≡ 4100 }
+{}

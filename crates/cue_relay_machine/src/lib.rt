@@ -1,0 +1,34 @@
+//! The relay as a machine over values: what it hands on, what it says of its devices, and its status.
+//!
+//! It hears datagrams, each at the socket of a *place*, and is woken each tenth of a second (*tick*). Which datagrams
+//! go on, and how, is what `cue_relay` says; one that goes on leaves by the socket across, with its own bytes. What a
+//! step gives, and what the relay knows after it, stands in `specs/Steps.antt`, and each line and the status, byte for
+//! byte, in `specs/Texts.antt`. `run` says what a whole life hands on, and `laws` what no life does.
+//!
+//! Why it is so:
+//! - A step first gives all that needs memory, and only then asks the meter of the device, which notes that something
+//!   went on: so a step for which there is no memory has noted nothing.
+//! - That the status could not be written is said a tick later, before the next one: a machine is told what was lost,
+//!   and gives nothing for that.
+//! - What is known of each device is made anew at each tick, and takes the place of what was known once all is given.
+//! - The counts stay at the highest number that there is room for. No relay comes to that.
+//! - Places and not openings: the loop knows nothing of routes.
+//!
+//! Only tested: the date of a line.
+#![tactic(auto)]
+
+mod books;
+mod going;
+mod known;
+pub mod laws;
+mod lines;
+mod living;
+mod machine;
+mod places;
+mod status;
+
+pub use books::Books;
+pub use known::Known;
+pub use living::run;
+pub use machine::RelayMachine;
+pub use places::addresses;

@@ -2,9 +2,11 @@
 use super::PORT;
 use cue_desk::counting::Count;
 use cue_desk::ending::Ending;
+use cue_edge_run::{NetEars, NetPost, bind, is_in_memory};
 use cue_files_run::read_file;
-use cue_relay::{Address, Relay, RelayFault, Route, run};
-use cue_relay_run::{NetSource, NetWire, Reporter, Sides, bind, is_in_memory};
+use cue_machine::Why;
+use cue_relay::{Address, Relay, Route};
+use cue_relay_machine::{RelayMachine, addresses, run};
 use cue_saying::{print, say};
 use cue_show_file::{ShowFile, routes, shared_port};
 use mio::net::UdpSocket;
@@ -61,6 +63,13 @@ fn plan<R: Eprint + AllocGlobal>(
     Ok((stage, routes))
 }
 
+// The addresses of the two sides: the controller's whole one, and this machine's own on the stage's network.
+#[derive(Clone, Copy)]
+struct Sides {
+    controller: Address,
+    stage: u32,
+}
+
 // What the relay stands between, in words.
 fn begun<R: AllocGlobal, W: Write>(
     rt: &R,
@@ -77,40 +86,54 @@ fn begun<R: AllocGlobal, W: Write>(
     print(writer, text.as_str())
 }
 
-// Why the relay ended, in words.
-fn why(fault: Option<RelayFault>) -> &'static str {
-    match fault {
-        Some(RelayFault::Source) => "a socket failed",
-        Some(RelayFault::Memory) => "out of memory",
-        None => "it has had its turns",
+// Two sockets for each route; if there is none at an address, why is on standard error.
+fn bind_all<R: Net + Eprint + AllocGlobal>(
+    rt: &R,
+    sides: Sides,
+    routes: &[Route],
+) -> Result<Vec<UdpSocket>, Ending> {
+    let addresses = addresses(rt.alloc(), sides.controller.host, sides.stage, routes)?;
+    match bind(rt, &addresses) {
+        Ok(sockets) => Ok(sockets),
+        Err(fault) => {
+            say(rt, format_args!("{}: {}", fault.address, fault.why));
+            Err(Ending::Failed)
+        }
     }
 }
 
-// Relays what comes from this source, until a signal ends it.
+// Why the relay ended, in words.
+fn why(ended: Why) -> &'static str {
+    match ended {
+        Why::Ears | Why::End => "a socket failed",
+        Why::Memory => "out of memory",
+        Why::Turns | Why::Over => "it has had its turns",
+    }
+}
+
+// Relays what comes to these ears, until a signal ends it.
 fn relay_from<R: Files<File = File> + Net + Clock + Eprint + AllocGlobal, W: Write>(
     rt: &R,
     (sides, routes): (Sides, &[Route]),
-    source: &mut NetSource<'_, R>,
+    ears: &mut NetEars<'_, R>,
     status: Option<&str>,
     writer: &mut W,
 ) -> Result<(), Ending> {
+    let alloc = rt.alloc();
     begun(rt, sides, routes.len(), writer)?;
-    let mut reporter = Reporter::new(rt, routes, status, writer)?;
-    let mut wire = NetWire::new(source.sockets());
     let relay = Relay {
         controller: sides.controller,
         routes,
     };
-    let ended = run(
-        rt.alloc(),
-        relay,
-        source,
-        &mut wire,
-        u64::MAX,
-        &mut reporter,
-    );
-    drop(reporter);
-    say(rt, why(ended.fault));
+    let mut machine = RelayMachine::new(alloc, relay, status, ears.now())?;
+    let mut post = NetPost::new(rt, ears.sockets(), status, writer)?;
+    let said = match run(alloc, &mut machine, ears, &mut post, u64::MAX) {
+        Ok(ended) => why(ended.why),
+        Err(_) => why(Why::Memory),
+    };
+    drop(post);
+    drop(machine);
+    say(rt, said);
     Err(Ending::Failed)
 }
 
@@ -122,12 +145,12 @@ fn relay_at<R: Files<File = File> + Net + Clock + Eprint + AllocGlobal, W: Write
     status: Option<&str>,
     writer: &mut W,
 ) -> Result<(), Ending> {
-    let Ok(mut source) = NetSource::new(rt, rt, sockets) else {
+    let Ok(mut ears) = NetEars::new(rt, rt, sockets) else {
         say(rt, "the sockets cannot be waited at");
         return Err(Ending::Failed);
     };
-    let relayed = relay_from(rt, at, &mut source, status, writer);
-    drop(source);
+    let relayed = relay_from(rt, at, &mut ears, status, writer);
+    drop(ears);
     relayed
 }
 
@@ -161,7 +184,7 @@ pub fn relay_devices<R: Files<File = File> + Net + Clock + Eprint + AllocGlobal,
     let (stage, routes) = planned?;
     let controller = Address { host, port };
     let sides = Sides { controller, stage };
-    let mut sockets = bind(rt, sides, &routes)?;
+    let mut sockets = bind_all(rt, sides, &routes)?;
     say_disk(rt, status);
     let relayed = relay_at(rt, (sides, &routes), &mut sockets, status, writer);
     drop(sockets);

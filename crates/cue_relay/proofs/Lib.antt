@@ -2,5 +2,4 @@ pub mod HearingLemmas
 pub mod MessageLemmas
 pub mod MeterLemmas
 pub mod RateLemmas
-pub mod RunLemmas
 pub mod WayLemmas

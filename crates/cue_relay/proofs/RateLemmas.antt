@@ -14,12 +14,11 @@ use Rattle.cue_relay.specs.declared.route.Address.{Address}
 use Rattle.cue_relay.specs.declared.route.Opening.{Opening}
 use Rattle.cue_relay.specs.declared.route.Side.{Side}
 use Rattle.cue_relay.specs.declared.route.Side.TheVariants.{Controller, Stage}
-use Rattle.cue_relay.specs.Laws.{AtARate, is_controller, time_to_controller, times_to_controller}
+use Rattle.cue_relay.specs.Laws.{AtMostAHundred, is_controller}
 use Rattle.cue_relay.specs.Rates.{is_past, is_past_or_none, has_room, times_of, times_after, admits}
 use Rattle.cue_relay.specs.Rates.{admits_at, meters_after, meters_at}
-use Rattle.cue_relay.specs.Relayed.{goes_on, no_times, times_then, way_and_message}
+use Rattle.cue_relay.specs.Relayed.{Answer, comes, ticks, goes_on, no_times, times_then, way_and_message}
 use Rattle.cue_relay.specs.Relaying.{across}
-use Rattle.cue_relay.specs.Sources.{Answer, comes, ticks, ends, fails}
 use Rattle.cue_relay.proofs.WayLemmas.{Goes, goes}
 
 -- ---- lists of times
@@ -113,7 +112,19 @@ past_apart first last h = by (nat_lt last first) refl h
         let long : SECOND ≤ last - first = leb-true SECOND (last - first) k in
         let sum : first + SECOND ≤ last = omega arith in inl sum
 
--- ---- one answer of a source
+-- ---- one that came
+
+-- the time of what came, if that goes on to the controller by the route
+abbrev pub time_to_controller : ℕ → Answer → Option Going → List ℕ
+time_to_controller route (comes now at from bytes) (Some g) =
+    cond (is_controller g.way.out.side && (g.way.out.route == route)) (now ∷ []) []
+time_to_controller route _ _ = []
+
+-- when something went on to the controller by the route, in order, each given those before it
+abbrev pub times_to_controller : Relay → ℕ → List (List ℕ) → List Answer → List ℕ
+times_to_controller r route meters [] = []
+times_to_controller r route meters (a ∷ more) = time_to_controller route a (goes_on r meters a)
+    ++ times_to_controller r route (times_then r meters a) more
 
 -- the times that are kept are the last ones
 abbrev Tracks : Relay → ℕ → List (List ℕ) → List ℕ → Type 0
@@ -229,8 +240,6 @@ step : (r : Relay) (k : ℕ) (meters : List (List ℕ)) (before : List ℕ) (a :
 step r k meters before (comes now at from bytes) t =
     step_by r k meters before now at from bytes (way_and_message r at from bytes) refl t
 step r k meters before (ticks now) t = inl (refl, t)
-step r k meters before ends t = inl (refl, t)
-step r k meters before fails t = inl (refl, t)
 
 -- ---- all of them
 
@@ -246,7 +255,8 @@ spaced r k (a ∷ more) meters before t =
           (s.2, spaced r k more (times_then r meters a) (s.0 ∷ before) s.3)
     ]
 
-pub at-a-rate : AtARate
+pub at-a-rate : (r : Relay) (given : List Answer) (route : ℕ)
+    → AtMostAHundred (times_to_controller r route (no_times r.routes.now) given)
 at-a-rate r given route i first last f l =
     past_apart first last (apart (RATE - 1) i [] (times_to_controller r route (no_times r.routes.now) given) first last
     (spaced r route given (no_times r.routes.now) []

@@ -17,14 +17,12 @@ use Rattle.cue_relay.specs.declared.route.Route.{Route}
 use Rattle.cue_relay.specs.declared.route.Side.{Side}
 use Rattle.cue_relay.specs.declared.route.Side.TheVariants.{Controller, Stage}
 use Rattle.cue_relay.specs.declared.route.Way.{Way}
-use Rattle.cue_relay.specs.Messages.{message_in}
 use Rattle.cue_relay.specs.Rates.{admits, meters_after}
 use Rattle.cue_relay.specs.Relaying.{across, is_same, message_at, way_by, way_of, who_is_at}
-use Rattle.cue_relay.specs.Sources.{Answer, comes, ticks, ends, fails, cut}
-use Rattle.cue_relay.specs.Wires.{Sending}
-use Rattle.cue_relay.specs.Relayed.{going_of, way_and_message, goes_on, times_then, sent_by, handed_on}
-use Rattle.cue_relay.specs.Relayed.{handed_from, no_times}
-use Rattle.cue_relay.specs.Laws.{CameBy, OnlyAnswers, OnlyOrders}
+use Rattle.cue_relay.specs.Messages.{IsAnswerOf, IsOrderTo, IsReply, message_in}
+use Rattle.cue_relay.specs.Relayed.{Answer, Sending, comes, ticks, all_handed_on, going_of, way_and_message, goes_on}
+use Rattle.cue_relay.specs.Relayed.{times_then, sent_by, handed_on, handed_from, no_times}
+use Rattle.cue_relay.specs.Laws.{CameBy}
 use Rattle.cue_relay.proofs.MessageLemmas.{stage_says, controller_says}
 
 too_long : (c : Address) (routes : List Route) (at : Opening) (from : Address) (len : ℕ) → MAX_LEN < len
@@ -49,16 +47,16 @@ cut_way size h r at from bytes (inr long) =
 le_or : (a b : ℕ) → (a ≤ b) ⊎ (b < a)
 le_or a b = elim (leb_tells a b) [ inl k ↦ inl k.1 | inr k ↦ inr k.1 ]
 
-pub cut-same : (size : ℕ) → MAX_LEN < size → (r : Relay) (meters : List (List ℕ)) (a : Answer)
-    → (goes_on r meters (cut size a) ≡ goes_on r meters a) × (times_then r meters (cut size a) ≡ times_then r meters a)
-cut-same size h r meters (comes now at from bytes) =
+-- of a datagram that was cut goes on what would of it whole, and what is noted is the same
+pub cut-same : (size : ℕ) → MAX_LEN < size → (r : Relay) (meters : List (List ℕ)) (now : ℕ) (at : Opening)
+    (from : Address) (bytes : List ℕ)
+    → (goes_on r meters (comes now at from (take size bytes)) ≡ goes_on r meters (comes now at from bytes))
+    × (times_then r meters (comes now at from (take size bytes)) ≡ times_then r meters (comes now at from bytes))
+cut-same size h r meters now at from bytes =
     let same = cut_way size h r at from bytes (le_or (length bytes) size) in (
       ap (λ (o : Option Going). cond (admits meters at now) o None) same,
       ap (λ (o : Option Going). cond (is_some o) (meters_after meters at now) meters) same,
     )
-cut-same size h r meters (ticks now) = (refl, refl)
-cut-same size h r meters ends = (refl, refl)
-cut-same size h r meters fails = (refl, refl)
 
 same_address : (a b : Address) → is_same a b ≡ true → a ≡ b
 same_address a b e =
@@ -124,7 +122,7 @@ goes r at from bytes g e =
       says = said_at r.routes.now at bytes route g.message found parts.1;
     })
 
--- a sending that a list of answers gives is of one of them
+-- what is handed on of all that comes is of one of them
 record Of (r : Relay) (given : List Answer) (s : Sending) : Type 0 where
   now : ℕ
   at : Opening
@@ -173,8 +171,6 @@ of_one r meters (comes now at from bytes) more s h =
           (guarded (admits meters at now) (way_and_message r at from bytes) k.going k.found).1;
     }
 of_one r meters (ticks now) more s h = none_in s h
-of_one r meters ends more s h = none_in s h
-of_one r meters fails more s h = none_in s h
 
 of_later : (r : Relay) (a : Answer) (more : List Answer) (s : Sending) → Of r more s → Of r (a ∷ more) s
 of_later r a more s h = record {
@@ -223,7 +219,12 @@ came_by r given s now at at_then from from_then route came found out fits e f = 
   fits = fits;
 }
 
-pub only-answers : OnlyAnswers
+-- what is handed to the controller is an answer of the device of its route, and came from the device's own address, at
+-- the stage's side of that route
+pub only-answers : (r : Relay) (given : List Answer) (s : Sending) → Contains (all_handed_on r given) s
+    → s.way.out.side ≡ Controller
+    → (route : Route) × IsAnswerOf route.device s.bytes
+    × CameBy r given s (record { route = s.way.out.route; side = Stage }) route.address route
 only-answers r given s h e =
     let o = of_all r (no_times r.routes.now) given s h in
     let w = goes r o.at o.from s.bytes o.going o.goes_so in
@@ -239,7 +240,12 @@ only-answers r given s h e =
           o.came w.found out w.fits at from,
     )
 
-pub only-orders : OnlyOrders
+-- what is handed to the stage is a reply, or an order to the device of its route; it came from the controller, and is
+-- for the address of that device
+pub only-orders : (r : Relay) (given : List Answer) (s : Sending) → Contains (all_handed_on r given) s
+    → s.way.out.side ≡ Stage
+    → (route : Route) × (s.way.to ≡ route.address) × (IsReply s.bytes ⊎ IsOrderTo route.device s.bytes)
+    × CameBy r given s (record { route = s.way.out.route; side = Controller }) r.controller route
 only-orders r given s h e =
     let o = of_all r (no_times r.routes.now) given s h in
     let w = goes r o.at o.from s.bytes o.going o.goes_so in

@@ -4,7 +4,4 @@ pub mod Messages
 pub mod Rates
 pub mod Relayed
 pub mod Relaying
-pub mod Seeing
 pub mod Silences
-pub mod Sources
-pub mod Wires

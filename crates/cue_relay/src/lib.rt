@@ -1,13 +1,14 @@
 //! The relay between the controller, which listens on 127.0.0.1 alone, and devices on the stage's network: which
-//! datagrams it hands on, and the loop.
+//! datagrams it hands on, and what it knows of each device. `cue_relay_machine` hands them on.
 //!
 //! A *route* is a device's number, its local port and its own address. It has two sockets, its *openings*: one on the
 //! controller's side, one on the stage's. How a datagram goes on is decided in three steps: from whom (`way_of`,
 //! `specs/Relaying.antt`): only from the controller, or only from the device's own address, each by the other socket of
 //! the same route; what it says (`message_in`, `specs/Messages.antt`): to the controller one of the four answers of
 //! that very device, to the stage a reply or an order to it, byte for byte; how much (`Meter`, `specs/Rates.antt`): of
-//! each device at most 100 a second go on to the controller. All else is dropped. The laws (`specs/Laws.antt`,
-//! `specs/Silences.antt`) say what follows for a whole run.
+//! each device at most 100 a second go on to the controller. All else is dropped. `specs/Relayed.antt` says what is
+//! handed on of all that comes; what that comes to in a whole life are laws of `cue_relay_machine`. The laws here
+//! (`specs/Silences.antt`) say who may be silent.
 //!
 //! Why it is so:
 //! - Two sockets for each device: one at 0.0.0.0 would be open on each network of the machine. One port for each
@@ -26,12 +27,10 @@
 //!   would deliver orders late.
 //! - The status is a file that is replaced whole, ten times a second: whoever only looks needs no permission to speak
 //!   to the relay, and a relay that has stopped shows by the age of its file.
-//! - `Source` and `Wire` are not the controller's: a sender there is a port of this machine, and here an opening and an
-//!   address. Only the faults, and how a list of answers is used up, are the same.
 //! - Only IPv4, as four numbers: a name would be looked up by a service that may be slow or wrong in the middle of an
 //!   evening.
 //!
-//! Only tested: the text of a status, and that what was written is read as the same.
+//! Only tested: how the text of a status is read. `cue_relay_machine` writes it.
 #![tactic(auto)]
 
 mod going;
@@ -41,15 +40,11 @@ mod messages;
 mod rate;
 mod relaying;
 mod route;
-mod source;
 pub mod status;
-mod wire;
 
-pub use going::Going;
+pub use going::{Going, way_and_message};
 pub use hearing::{Contact, News, Pending, SILENCE, hearing_limits};
 pub use messages::{Message, message_in};
-pub use rate::{Meter, RATE, SECOND, meters};
-pub use relaying::{Counts, Ended, Happening, Relay, RelayFault, Watch, run};
+pub use rate::{Meter, RATE, SECOND, admit, meters};
+pub use relaying::{Counts, Relay};
 pub use route::{Address, Opening, Route, Side, Way, way_of};
-pub use source::{Source, SourceFault, Turn};
-pub use wire::{Wire, WireFault};

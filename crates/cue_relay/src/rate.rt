@@ -89,10 +89,10 @@ pub fn meters(alloc: Global, count: usize) -> Result<Vec<Meter>, AllocError>
     Ok(meters)
 }
 
-/// Whether a datagram that may go on from this opening goes on now: at the stage's side the meter of its route decides.
-pub fn admit(meters: &mut [Meter], at: Opening, now: u64) -> bool
-    ensures admits { result ≡ admits meters.old at now }
-    ensures after { meters.new ≡ meters_after meters.old at now }
+/// Whether what may go on from this opening goes on now, which is noted then: of a device its meter decides.
+pub fn admit(meters: &mut Vec<Meter>, at: Opening, now: u64) -> bool
+    ensures admits { result ≡ admits meters.old.items at now }
+    ensures after { meters.new.items ≡ meters_after meters.old.items at now }
 {
     match at.side {
         Side::Controller => true,

@@ -1,13 +1,10 @@
 //! What a relay says of itself, as a small text: the desk reads it to show when each device was heard.
-ghost use Rattle.std.specs.Prelude.{◌≡◌};
-ghost use Rattle.cue_relay.specs.Seeing.{seen_of};
 
-use crate::hearing::Contact;
 use crate::relaying::Counts;
-use crate::route::{Address, Route};
+use crate::route::Address;
 use cue_show::DeviceNo;
 use std::alloc::{AllocError, Global};
-use std::fmt::{self, Write};
+use std::fmt;
 use std::net::{Ipv4Addr, SocketAddrV4};
 use std::str::{Lines, Split};
 
@@ -47,44 +44,6 @@ pub struct Status {
     pub devices: Vec<Seen>,
 }
 
-// What is said of the device of a route: what is known of it.
-fn report_of(route: &Route, contact: &Contact) -> Seen
-    ensures { result ≡ seen_of route.now contact.now }
-{
-    let ordered = match contact.pending {
-        Some(pending) => Some(pending.order),
-        None => None,
-    };
-    Seen {
-        device: route.device,
-        address: route.address,
-        heard: contact.heard,
-        ordered,
-        silent: contact.silent,
-    }
-}
-
-impl Status {
-    /// The status of a relay at this time: one contact for each route.
-    pub fn of(
-        alloc: Global,
-        now: u64,
-        counts: Counts,
-        routes: &[Route],
-        contacts: &[Contact],
-    ) -> Result<Status, AllocError> {
-        let mut devices = Vec::with_capacity(alloc, routes.len())?;
-        for (route, contact) in routes.iter().zip(contacts) {
-            devices.push(report_of(route, contact))?;
-        }
-        Ok(Status {
-            now,
-            counts,
-            devices,
-        })
-    }
-}
-
 impl fmt::Display for Address {
     fn fmt<W: fmt::Write>(&self, f: &mut fmt::Formatter<W>) -> fmt::Result {
         write!(f, "{}:{}", Ipv4Addr::from_bits(self.host), self.port)
@@ -104,15 +63,6 @@ impl Address {
 }
 
 impl Ordered {
-    /// Its word in the text of a status.
-    pub fn word(self) -> &'static str {
-        match self {
-            Ordered::Standby => "standby",
-            Ordered::Go => "go",
-            Ordered::Cancel => "cancel",
-        }
-    }
-
     // The order of which this is the word.
     fn read(word: &str) -> Option<Ordered> {
         match word {
@@ -122,37 +72,6 @@ impl Ordered {
             _ => None,
         }
     }
-}
-
-// One line of a device.
-fn push_device(text: &mut String, seen: &Seen) -> Result<(), AllocError> {
-    let number = seen.device.number();
-    write!(text, "device {number} {} ", seen.address)?;
-    match seen.heard {
-        Some(heard) => write!(text, "heard {heard}")?,
-        None => text.push_str("never")?,
-    }
-    if let Some(ordered) = seen.ordered {
-        write!(text, " {}", ordered.word())?;
-    }
-    text.push_str(if seen.silent { " silent\n" } else { "\n" })
-}
-
-/// The status as a text, whose last line is `end`.
-pub fn written(alloc: Global, status: &Status) -> Result<String, AllocError> {
-    let mut text = String::new(alloc);
-    let counts = status.counts;
-    writeln!(text, "relay 2 {}", status.now)?;
-    writeln!(
-        text,
-        "passed {} lost {} dropped {}",
-        counts.passed, counts.lost, counts.dropped
-    )?;
-    for seen in &status.devices {
-        push_device(&mut text, seen)?;
-    }
-    text.push_str("end\n")?;
-    Ok(text)
 }
 
 // The number that a word is.

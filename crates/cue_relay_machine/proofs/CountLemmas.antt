@@ -15,9 +15,7 @@ use Rattle.cue_machine.specs.Living.{AreTurns, IsTurn, Turn, after_loss_of, afte
 use Rattle.cue_machine.specs.Posting.{Given, Posted, given_as, given_of, posted_as}
 use Rattle.cue_relay.specs.declared.going.Going.{Going}
 use Rattle.cue_relay.specs.declared.relaying.Counts.{Counts}
-use Rattle.cue_relay.specs.Relayed.{goes_on, is_datagram}
-use Rattle.cue_relay.specs.Sources.{Answer, comes, ticks, ends, fails}
-use Rattle.cue_relay.specs.Wires.{Sending}
+use Rattle.cue_relay.specs.Relayed.{Answer, Sending, comes, ticks, goes_on, is_datagram}
 use Rattle.cue_relay_machine.specs.declared.books.Books.{Books}
 use Rattle.cue_relay_machine.specs.declared.known.Known.{Known}
 use Rattle.cue_relay_machine.specs.declared.machine.RelayMachine.{RelayMachine}
@@ -181,8 +179,6 @@ came_both a more = sum_by-append (λ x. cond (is_datagram x) 1 0) (a ∷ []) mor
 came_at_most : (a : Answer) → count_by is_datagram (a ∷ []) ≤ 1
 came_at_most (comes now at from bytes) = omega arith
 came_at_most (ticks now) = omega arith
-came_at_most ends = omega arith
-came_at_most fails = omega arith
 
 turns_add : (m : RelayMachine) (ts : List Turn) (m_then : RelayMachine) → AreTurns relay_machine m ts m_then
     → total m.books.counts + length ts ≤ highest

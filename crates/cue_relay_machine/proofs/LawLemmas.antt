@@ -9,11 +9,9 @@ use Rattle.cue_machine.specs.Living.{AreTurns, Turn}
 use Rattle.cue_machine.specs.Posting.{given_of}
 use Rattle.cue_relay.specs.declared.going.Going.{Going}
 use Rattle.cue_relay.specs.declared.relaying.Relay.{Relay}
-use Rattle.cue_relay.specs.Laws.{AtMostAHundred, is_controller, time_to_controller, times_to_controller}
-use Rattle.cue_relay.specs.Relayed.{all_handed_on, goes_on, handed_on, no_times, sent_by, times_then}
-use Rattle.cue_relay.specs.Sources.{Answer}
-use Rattle.cue_relay.specs.Wires.{Sending}
-use Rattle.cue_relay.proofs.RateLemmas.{at-a-rate}
+use Rattle.cue_relay.specs.Laws.{AtMostAHundred, is_controller}
+use Rattle.cue_relay.specs.Relayed.{Answer, Sending, all_handed_on, goes_on, handed_on, no_times, sent_by, times_then}
+use Rattle.cue_relay.proofs.RateLemmas.{at-a-rate, time_to_controller, times_to_controller}
 use Rattle.cue_relay.proofs.WayLemmas.{only-answers, only-orders}
 use Rattle.cue_relay_machine.specs.declared.machine.RelayMachine.{RelayMachine}
 use Rattle.cue_relay_machine.specs.Laws.{HandsAtARate, HandsOn, HandsOnlyAnswers, HandsOnlyOrders, HadTurns}

@@ -21,10 +21,9 @@ use Rattle.cue_relay.specs.declared.relaying.Relay.{Relay}
 use Rattle.cue_relay.specs.declared.route.Opening.{Opening}
 use Rattle.cue_relay.specs.declared.route.Side.TheVariants.{Controller, Stage}
 use Rattle.cue_relay.specs.Rates.{admits}
-use Rattle.cue_relay.specs.Relayed.{goes_on, handed_from, handed_on, no_times, sent_by, times_then, way_and_message}
+use Rattle.cue_relay.specs.Relayed.{Answer, Sending, goes_on, handed_from, handed_on, no_times, sent_by, times_then}
+use Rattle.cue_relay.specs.Relayed.{way_and_message}
 use Rattle.cue_relay.specs.Relaying.{across}
-use Rattle.cue_relay.specs.Sources.{Answer}
-use Rattle.cue_relay.specs.Wires.{Sending}
 use Rattle.cue_relay.proofs.WayLemmas.{Goes, goes}
 use Rattle.cue_relay_machine.specs.declared.books.Books.{Books}
 use Rattle.cue_relay_machine.specs.declared.known.Known.{Known}

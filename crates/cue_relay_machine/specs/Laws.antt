@@ -1,21 +1,22 @@
 -- What no life of a relay does, whatever comes and in whatever order.
 use Rattle.std.specs.Prelude.{◌≡◌, ◌<◌, ◌+◌, ◌^◌, ◌⊎◌, ◌&&◌, ◌==◌, ℕ, Bool, true, false, List, [], ◌∷◌, ◌++◌, length}
-use Rattle.std.specs.Prelude.{map}
+use Rattle.std.specs.Prelude.{map, take}
 use Rattle.std.specs.Prelude.{count_by, if◌then◌else◌, Contains}
+use Rattle.cue_machine.specs.declared.address.Address as machine
 use Rattle.cue_machine.specs.declared.post.Output.{Output}
 use Rattle.cue_machine.specs.declared.post.Output.TheVariants as output
 use Rattle.cue_machine.specs.Living.{AreTurns, Turn, all_posted}
 use Rattle.cue_machine.specs.Posting.{Posted, given_of}
 use Rattle.cue_relay.specs.declared.relaying.Counts.{Counts}
+use Rattle.cue_relay.specs.declared.relaying.Relay.{Relay}
 use Rattle.cue_relay.specs.declared.route.Route.{Route}
 use Rattle.cue_relay.specs.declared.route.Side.TheVariants.{Controller, Stage}
 use Rattle.cue_relay.specs.Laws.{AtMostAHundred, CameBy, is_controller}
 use Rattle.cue_relay.specs.Messages.{IsAnswerOf, IsOrderTo, IsReply}
-use Rattle.cue_relay.specs.Relayed.{all_handed_on, is_datagram}
-use Rattle.cue_relay.specs.Wires.{Sending}
+use Rattle.cue_relay.specs.Relayed.{Sending, all_handed_on, goes_on, is_datagram, times_then}
 use Rattle.cue_relay_machine.specs.declared.machine.RelayMachine.{RelayMachine}
 use Rattle.cue_relay_machine.specs.Lives.{IsNew, answer_of, handed_in, relay_machine, sendings}
-use Rattle.cue_relay_machine.specs.Steps.{state_of}
+use Rattle.cue_relay_machine.specs.Steps.{came, state_of}
 
 -- a relay had these turns, the first of its life and those after it
 pub record HadTurns (m : RelayMachine) (ts : List Turn) (m_then : RelayMachine) : Type 0 where
@@ -65,6 +66,13 @@ abbrev pub HandsAtARate : Type 0
 HandsAtARate =
     (m : RelayMachine) (ts : List Turn) (m_then : RelayMachine) (route : ℕ) → HadTurns m ts m_then
     → AtMostAHundred (times_handed route ts)
+
+-- of a datagram that was cut goes on what would of it whole, and what is noted is the same
+abbrev pub CutIsTheSame : ℕ → Type 0
+CutIsTheSame size =
+    (r : Relay) (meters : List (List ℕ)) (now at : ℕ) (from : machine.Address) (bytes : List ℕ)
+    → (goes_on r meters (came now at from (take size bytes)) ≡ goes_on r meters (came now at from bytes))
+    × (times_then r meters (came now at from (take size bytes)) ≡ times_then r meters (came now at from bytes))
 
 -- ---- counts
 

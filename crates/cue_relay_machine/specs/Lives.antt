@@ -9,9 +9,7 @@ use Rattle.cue_machine.specs.declared.post.Output.TheVariants as output
 use Rattle.cue_machine.specs.Hearing.{Told}
 use Rattle.cue_machine.specs.Living.{Lived, Turn, all_posted}
 use Rattle.cue_machine.specs.Posting.{Given, Posted, given_of}
-use Rattle.cue_relay.specs.Relayed.{all_handed_on}
-use Rattle.cue_relay.specs.Sources.{Answer, ticks}
-use Rattle.cue_relay.specs.Wires.{Sending}
+use Rattle.cue_relay.specs.Relayed.{Answer, Sending, all_handed_on, ticks}
 use Rattle.cue_relay_machine.specs.declared.machine.RelayMachine.{RelayMachine}
 use Rattle.cue_relay_machine.specs.Places.{opening_at, relay_address}
 use Rattle.cue_relay_machine.specs.Steps.{State, after_loss, begun, came, is_over, state_of, steps, wakes}
@@ -26,7 +24,7 @@ IsNew s = s ≡ begun s.relay s.file s.books.ticked
 
 -- ---- what came, and what was handed on
 
--- what came, as a source of the relay gives it: a datagram, or nothing at a time
+-- what came, as the relay has it: a datagram, or nothing at a time
 abbrev pub answer_as : ℕ → Input → List ℕ → Answer
 answer_as now (input.Datagram at from) bytes = came now at from bytes
 answer_as now (input.Refused at) bytes = ticks now

@@ -15,8 +15,7 @@ use Rattle.cue_relay.specs.declared.hearing.News.{News}
 use Rattle.cue_relay.specs.declared.messages.Message.{Message}
 use Rattle.cue_relay.specs.declared.relaying.Relay.{Relay}
 use Rattle.cue_relay.specs.Hearing.{told_of_message, told_of_time}
-use Rattle.cue_relay.specs.Relayed.{goes_on, no_times, times_then}
-use Rattle.cue_relay.specs.Sources.{Answer, comes, ticks}
+use Rattle.cue_relay.specs.Relayed.{Answer, comes, goes_on, no_times, times_then}
 use Rattle.cue_relay_machine.specs.declared.books.Books.{Books}
 use Rattle.cue_relay_machine.specs.declared.known.Known.{Known}
 use Rattle.cue_relay_machine.specs.declared.machine.RelayMachine.{RelayMachine}

@@ -1,6 +1,8 @@
 //! What every life of a relay comes to, whatever comes. Each contract is a theorem; there is nothing to run.
-ghost use Rattle.std.specs.Prelude.{◌≡◌};
-ghost use Rattle.cue_relay_machine.specs.Laws.{CountsAll, HandsAtARate, HandsOn, HandsOnlyAnswers, HandsOnlyOrders};
+ghost use Rattle.std.specs.Prelude.{◌≡◌, ◌<◌};
+ghost use Rattle.cue_osc.specs.declared.limits.TheConstants.{MAX_LEN};
+ghost use Rattle.cue_relay_machine.specs.Laws.{CountsAll, CutIsTheSame, HandsAtARate, HandsOn, HandsOnlyAnswers};
+ghost use Rattle.cue_relay_machine.specs.Laws.{HandsOnlyOrders};
 ghost use Rattle.cue_relay_machine.specs.declared.books.TheConstants.{DROPPED_PAUSE, TICK};
 ghost use Rattle.cue_relay_machine.specs.declared.living.TheConstants.{MAX_RECEIVED};
 
@@ -28,6 +30,11 @@ pub fn hands_at_a_rate()
     ensures { HandsAtARate }
 {}
 
+/// A datagram that is cut to the buffer was too long already: it is dropped, as it would be whole.
+pub fn cut_is_the_same()
+    ensures { CutIsTheSame MAX_RECEIVED }
+{}
+
 /// The counts of a relay are those of its whole life: what was handed on and left, what was handed on and lost, and
 /// what was dropped. Each datagram is counted once.
 pub fn counts_all()
@@ -35,9 +42,10 @@ pub fn counts_all()
 {}
 
 /// A status goes out each 100 milliseconds, and at most each 10,000 it is said how many were dropped. At most 4,100
-/// bytes of a datagram are read.
+/// bytes of a datagram are read: more than the longest one has, so that a longer one is seen to be so.
 pub fn limits()
     ensures tick { TICK ≡ 100 }
     ensures dropped { DROPPED_PAUSE ≡ 10000 }
     ensures buffer { MAX_RECEIVED ≡ 4100 }
+    ensures longer { MAX_LEN < MAX_RECEIVED }
 {}

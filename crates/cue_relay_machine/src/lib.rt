@@ -18,7 +18,6 @@
 #![tactic(auto)]
 
 mod books;
-mod going;
 mod known;
 pub mod laws;
 mod lines;

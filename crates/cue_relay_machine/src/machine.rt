@@ -12,13 +12,12 @@ ghost use Rattle.cue_relay_machine.specs.Steps.{state_of};
 ghost use Rattle.cue_relay_machine.specs.Texts.{after_time_of, take_at};
 
 use crate::books::Books;
-use crate::going::{admit, way_and_message};
 use crate::known::{Known, all_known, take_at};
 use crate::lines::{date_of, push_news, push_report};
 use crate::places::{across_from, machine_address, opening_at, relay_address};
 use crate::status::push_file;
 use cue_machine::{Address, Input, Machine, Output, Outputs};
-use cue_relay::{Going, Message, Meter, Relay, meters};
+use cue_relay::{Going, Message, Meter, Relay, admit, meters, way_and_message};
 use std::alloc::{AllocError, Global};
 
 /// A relay: what it knows of the datagrams that went on, and of each device.

@@ -1,7 +1,9 @@
 -- What comes to the socket of an ask, and what the machine hears of it.
-use Rattle.std.specs.Prelude.{ℕ, Option, Some, None}
+use Rattle.std.specs.Prelude.{◌≡◌, ℕ, List, Option, Some, None}
 use Rattle.std.specs.declared.io.ErrorKind.{ErrorKind}
 use Rattle.std.specs.declared.io.ErrorKind.TheVariants as kind
+use Rattle.cue_ask_machine.specs.declared.letters.Letter.{Letter}
+use Rattle.cue_ask_machine.specs.Answers.{answer_in}
 use Rattle.cue_station.specs.declared.heard.Heard.{Heard}
 use Rattle.cue_station.specs.declared.heard.Heard.TheVariants as heard
 use Rattle.cue_desk_run.specs.declared.asks.Came.{Came}
@@ -19,3 +21,10 @@ heard_of n (came.Replied r) = Some (heard.Replied n r)
 heard_of n came.Nobody = Some (heard.Nobody n)
 heard_of n came.Noise = None
 heard_of n came.Nothing = None
+
+-- what a datagram is read as that came to the socket of a letter: only its answer is a reply to it
+abbrev pub IsRead : Letter → List ℕ → Came → Type 0
+IsRead l datagram (came.Replied r) = answer_in l datagram ≡ Some r
+IsRead l datagram came.Nobody = ⊥
+IsRead l datagram came.Noise = Unit {0}
+IsRead l datagram came.Nothing = ⊥

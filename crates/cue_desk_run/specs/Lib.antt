@@ -3,3 +3,4 @@ pub mod Looks
 pub mod Readings
 pub mod Shelves
 pub mod Sockets
+pub mod Working

@@ -1,16 +1,16 @@
 //! The sockets of what the desk asks: one for each ask, so that no reply is taken for that to another one. Nothing here
 //! waits.
-ghost use Rattle.std.specs.Prelude.{◌≡◌};
-ghost use Rattle.cue_desk_run.specs.Hearing.{heard_of, unheard};
+ghost use Rattle.std.specs.Prelude.{◌≡◌, IfSome};
+ghost use Rattle.cue_desk_run.specs.Hearing.{IsRead, heard_of, unheard};
+ghost use Rattle.cue_desk_run.specs.Working.{IsUnpressed};
 
 use crate::addresses::local;
-use crate::letters::{Letter, is_status};
-use crate::naming::name_datagram;
+use cue_ask_machine::{Letter, is_status, name_datagram, send_letter};
 use cue_asker::AskerName;
-use cue_desk::answered::answer_in;
 use cue_desk::orders::DeskCommand;
-use cue_desk::replying::{Replied, read_reply};
-use cue_desk::together::condensed;
+use cue_desk::replying::Replied;
+use cue_edge_run::SocketPost;
+use cue_machine::PostFault;
 use cue_osc::MAX_LEN;
 use cue_station::heard::Heard;
 use mio::net::UdpSocket;
@@ -18,6 +18,7 @@ use mio::{Interest, Registry, Token};
 use std::alloc::Global;
 use std::io::{self, ErrorKind};
 use std::net::Net;
+use std::slice;
 
 /// The most presses whose answers are awaited at once. With the newest question for the status they are all asks.
 const MAX_PRESSES: usize = 2;
@@ -52,46 +53,41 @@ fn open_socket<R: Net>(rt: &R, registry: &Registry, port: u16) -> io::Result<Udp
     Ok(socket)
 }
 
-// Says who asks from this socket, once. Nobody waits for what becomes of that.
-fn send_name(alloc: Global, socket: &UdpSocket, name: AskerName) -> io::Result<()> {
-    match name_datagram(alloc, name.text()) {
-        Ok(message) => {
-            let _ = socket.send(&message);
-            Ok(())
-        }
-        Err(_) => Err(io::Error::from(ErrorKind::OutOfMemory)),
+// The datagram that says who asks, if that is to be said: a question for the status does not say it.
+fn name_for(
+    alloc: Global,
+    name: Option<AskerName>,
+    letter: &Letter,
+) -> io::Result<Option<Vec<u8>>> {
+    match name {
+        Some(name) if !letter.is_status => match name_datagram(alloc, name.text()) {
+            Ok(message) => Ok(Some(message)),
+            Err(_) => Err(io::Error::from(ErrorKind::OutOfMemory)),
+        },
+        _ => Ok(None),
     }
 }
 
-// Sends a message, once. If nobody heard the name before it, the system says so here and has not sent the message: then
-// it is sent now, and its own answer is waited for.
-fn send_after_name(socket: &UdpSocket, message: &[u8]) -> io::Result<()> {
-    let Err(why) = socket.send(message) else {
-        return Ok(());
-    };
-    if why.kind() != ErrorKind::ConnectionRefused {
-        return Err(why);
-    }
-    socket.send(message)?;
-    Ok(())
-}
-
-// Sends a letter from this socket, once, and before it who asks, if that is to be said.
+// Sends a letter from this socket, and before it who asks, if that is to be said.
 fn post(
     alloc: Global,
     socket: &UdpSocket,
-    name: Option<AskerName>,
+    (port, name): (u16, Option<AskerName>),
     letter: &Letter,
 ) -> io::Result<()> {
-    match name {
-        Some(name) if !letter.is_status => {
-            send_name(alloc, socket, name)?;
-            send_after_name(socket, &letter.message)
-        }
-        _ => {
-            socket.send(&letter.message)?;
-            Ok(())
-        }
+    let name = name_for(alloc, name, letter)?;
+    let mut post = SocketPost::new(slice::from_ref(socket));
+    match send_letter(&mut post, port, name.as_deref(), &letter.message) {
+        Ok(()) => Ok(()),
+        Err(PostFault) => Err(why_lost(post.take_fault())),
+    }
+}
+
+// Why a datagram did not leave.
+fn why_lost(fault: Option<io::Error>) -> io::Error {
+    match fault {
+        Some(why) => why,
+        None => io::Error::from(ErrorKind::Other),
     }
 }
 
@@ -103,7 +99,7 @@ fn open_and_post<R: Net + AllocGlobal>(
     letter: &Letter,
 ) -> io::Result<UdpSocket> {
     let socket = open_socket(rt, registry, port)?;
-    match post(rt.alloc(), &socket, name, letter) {
+    match post(rt.alloc(), &socket, (port, name), letter) {
         Ok(()) => Ok(socket),
         Err(why) => {
             drop(socket);
@@ -136,7 +132,8 @@ fn unheard(kind: ErrorKind) -> Came
 
 // What the machine hears of the ask with this number.
 fn heard_of(number: u64, came: Came) -> Option<Heard>
-    ensures { result ≡ heard_of number came }
+    ensures heard { result ≡ heard_of number came }
+    ensures unpressed { IfSome result IsUnpressed }
 {
     match came {
         Came::Replied(replied) => Some(Heard::Replied(number, replied)),
@@ -147,38 +144,14 @@ fn heard_of(number: u64, came: Came) -> Option<Heard>
 }
 
 impl Ask {
-    // What a reply says of what was asked: of exactly one command, or of several cues as one that is of one command.
-    fn reply_to(&self, replied: Replied) -> Option<Replied> {
-        if self.letter.count > 1 {
-            return condensed(self.letter.count, replied);
-        }
-        answer_in(replied).map(|_| replied)
-    }
-
-    // What a reply is to this ask: the status if that was asked, else what became of the command.
-    fn answer_by(&self, replied: Replied) -> Option<Replied> {
-        match replied {
-            Replied::Status(_) => if self.letter.is_status {
-                Some(replied)
-            } else {
-                None
-            },
-            Replied::Reply { .. } => if self.letter.is_status {
-                None
-            } else {
-                self.reply_to(replied)
-            },
-        }
-    }
-
     // What the datagram says. If memory runs out nothing is heard, as of a datagram that is lost.
-    fn read(&self, alloc: Global, datagram: &[u8]) -> Came {
-        let Ok(Some(replied)) = read_reply(alloc, &self.letter.shown, datagram) else {
-            return Came::Noise;
-        };
-        match self.answer_by(replied) {
-            Some(answer) => Came::Replied(answer),
-            None => Came::Noise,
+    fn read(&self, alloc: Global, datagram: &[u8]) -> Came
+        ensures { IsRead self.now.letter datagram.now result }
+    {
+        match self.letter.answer_in(alloc, datagram) {
+            Ok(Some(replied)) => Came::Replied(replied),
+            Ok(None) => Came::Noise,
+            Err(_) => Came::Noise,
         }
     }
 
@@ -192,7 +165,9 @@ impl Ask {
     }
 
     // Its answer, if that is there.
-    fn answer(&self, alloc: Global) -> Option<Heard> {
+    fn answer(&self, alloc: Global) -> Option<Heard>
+        ensures { IfSome result IsUnpressed }
+    {
         for _ in 0..MAX_READ {
             let came = self.next(alloc);
             if came != Came::Noise {
@@ -258,7 +233,9 @@ impl Asks {
     }
 
     // The first answer that is there, with the place of its ask.
-    fn first_answer(&self, alloc: Global) -> Option<(usize, Heard)> {
+    fn first_answer(&self, alloc: Global) -> Option<(usize, Heard)>
+        ensures { IfSome result (λ found. IsUnpressed found.1) }
+    {
         for (place, ask) in self.open.iter().enumerate() {
             if let Some(heard) = ask.answer(alloc) {
                 return Some((place, heard));
@@ -268,7 +245,9 @@ impl Asks {
     }
 
     /// The next answer that is there. Its ask is closed then: it has one answer at most.
-    pub fn hear(&mut self, alloc: Global) -> Option<Heard> {
+    pub fn hear(&mut self, alloc: Global) -> Option<Heard>
+        ensures { IfSome result IsUnpressed }
+    {
         let (place, heard) = self.first_answer(alloc)?;
         self.close(place);
         Some(heard)

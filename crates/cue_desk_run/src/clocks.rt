@@ -43,7 +43,9 @@ pub struct Beat {
 
 impl Beat {
     /// It was not done yet, and is due at once.
-    pub fn of(every: u64) -> Beat {
+    pub fn of(every: u64) -> Beat
+        ensures { result ≡ looks.beat every }
+    {
         Beat { every, last: None }
     }
 

@@ -1,6 +1,13 @@
 //! The desk at work: it hears the controller, the files and the relay, has the machine make a view of each thing that
 //! it heard, and sends what the machine says. Nothing here waits but `wait`.
-use crate::alarms::{AlarmsFile, KeptAlarms, are_same, keep_at, kept_at};
+ghost use Rattle.std.specs.Prelude.{◌≡◌, [], IfOk, OnErr};
+ghost use Rattle.cue_desk_run.specs.Working.{HearsIf, IsUnpressed, IsUntouched, OnlyLooks};
+ghost use Rattle.cue_station.specs.Memory.{IsAfter};
+ghost use Rattle.cue_station.specs.declared.heard.Heard.TheVariants as heard;
+
+mod alarming;
+
+use crate::alarms::{KeptAlarms, are_same};
 use crate::asks::Asks;
 use crate::clocks::{Beat, SteadyClock, wall_time};
 use crate::letters::letter_of;
@@ -13,8 +20,9 @@ use cue_show_file::Group;
 use cue_station::heard::{Heard, Input, Send};
 use cue_station::station::{Station, Step};
 use cue_view::button::Button;
-use cue_view::view::{Kept, View};
+use cue_view::view::View;
 use mio::{Events, Poll, Registry};
+use std::alloc::AllocError;
 use std::fs::{File, Files};
 use std::net::Net;
 use std::time::{Clock, Duration};
@@ -76,29 +84,35 @@ pub struct Desk<'a, R> {
     keeps: Beat,
 }
 
-// The first view, before anything was heard.
-fn first_view<R: Clock + AllocGlobal>(rt: &R, station: &mut Station, at: u64) -> io::Result<Step> {
+// The first step: time passes.
+fn first_step<R: Clock + AllocGlobal>(rt: &R, station: &mut Station) -> Result<Step, AllocError>
+    requires { IsAfter [] station.old }
+    ensures { IfOk result (λ step. IsUntouched station.new) }
+{
     let input = Input {
-        at,
+        at: 0,
         wall: wall_time(rt),
         heard: Heard::Tick,
     };
-    Ok(station.step(rt.alloc(), input)?)
+    let step = station.step(rt.alloc(), input)?;
+    Ok(step)
 }
 
 impl<'a, R: Files<File = File> + Net + Clock + AllocGlobal> Desk<'a, R> {
-    /// A desk that has heard nothing yet.
-    pub fn new(rt: &'a R, sources: &Sources<'a>) -> io::Result<Desk<'a, R>> {
+    /// A desk of which nothing was pressed yet.
+    pub fn new(rt: &'a R, sources: &Sources<'a>) -> io::Result<Desk<'a, R>>
+        ensures { IfOk result (λ desk. IsUntouched desk.station) }
+    {
         let clock = SteadyClock::new(rt)?;
         let poll = Poll::new(rt)?;
         let events = Events::with_capacity(rt.alloc(), EVENTS)?;
         let dir = String::from_str(rt.alloc(), sources.dir)?;
         let mut station = Station::new(rt.alloc());
-        let Step { view, send } = match first_view(rt, &mut station, 0) {
+        let Step { view, send } = match first_step(rt, &mut station) {
             Ok(step) => step,
             Err(why) => {
                 drop(station);
-                return Err(why);
+                return Err(io::Error::from(why));
             }
         };
         let mut desk = Desk {
@@ -127,17 +141,10 @@ impl<'a, R: Files<File = File> + Net + Clock + AllocGlobal> Desk<'a, R> {
         Ok(desk)
     }
 
-    /// Hears of the alarms that are kept in this file, and keeps its own there from now on, unless it is that of
-    /// another desk. A file that has anything else is an error, and stays as it is.
-    pub fn keep_alarms(&mut self, file: AlarmsFile<'a>) -> io::Result<()> {
-        let mut alarms = KeptAlarms::of(self.rt, file)?;
-        let kept = kept_at(&mut alarms.shelf, self.rt.alloc())?;
-        self.alarms = Some(alarms);
-        self.hear_kept(kept)
-    }
-
     /// The newest view.
-    pub fn view(&self) -> &View {
+    pub fn view(&self) -> &View
+        ensures { result.now ≡ self.now.view }
+    {
         &self.view
     }
 
@@ -162,14 +169,20 @@ impl<'a, R: Files<File = File> + Net + Clock + AllocGlobal> Desk<'a, R> {
     }
 
     // Sends a message, with the cues that stand by together with its own.
-    fn post(&mut self, send: Send) -> io::Result<()> {
+    fn post(&mut self, send: Send) -> io::Result<()>
+        ensures station { self.new.station ≡ self.old.station }
+        ensures view { self.new.view ≡ self.old.view }
+    {
         self.asks.make_room(send.order);
         let letter = letter_of(self.rt.alloc(), send, self.together)?;
         self.asks.send(self.rt, self.poll.registry(), letter)
     }
 
     // Sends what the machine says. If that fails, no answer to it comes.
-    fn send(&mut self, send: Option<Send>) {
+    fn send(&mut self, send: Option<Send>)
+        ensures station { self.new.station ≡ self.old.station }
+        ensures view { self.new.view ≡ self.old.view }
+    {
         let Some(send) = send else {
             return;
         };
@@ -185,26 +198,44 @@ impl<'a, R: Files<File = File> + Net + Clock + AllocGlobal> Desk<'a, R> {
     }
 
     /// Why a message could not be sent, once, if none could be since.
-    pub fn take_fault(&mut self) -> Option<io::Error> {
+    pub fn take_fault(&mut self) -> Option<io::Error>
+        ensures station { self.new.station ≡ self.old.station }
+        ensures view { self.new.view ≡ self.old.view }
+    {
         self.fault.take()
     }
 
+    // This view is the newest.
+    fn show(&mut self, view: View)
+        ensures station { self.new.station ≡ self.old.station }
+        ensures view { self.new.view ≡ view }
+    {
+        let old = mem::replace(&mut self.view, view);
+        self.has_changed = self.has_changed || !are_same(&old.failed, &self.view.failed);
+    }
+
     // Hears one thing at this moment, and answers whether it was heard: if memory ran out, nothing was.
-    fn hear_at(&mut self, at: u64, heard: Heard) -> bool {
+    fn hear_at(&mut self, at: u64, heard: Heard) -> bool
+        ensures { HearsIf result heard self.old.station self.new.station self.old.view self.new.view }
+    {
         let wall = wall_time(self.rt);
         let input = Input { at, wall, heard };
         let Ok(step) = self.station.step(self.rt.alloc(), input) else {
             return false;
         };
         let Step { view, send } = step;
-        let old = mem::replace(&mut self.view, view);
-        self.has_changed = self.has_changed || !are_same(&old.failed, &self.view.failed);
+        self.show(view);
         self.send(send);
         true
     }
 
     // The same of what is there now.
-    fn hear(&mut self, heard: Heard) -> io::Result<bool> {
+    fn hear(&mut self, heard: Heard) -> io::Result<bool>
+        ensures heard { IfOk result (λ is_heard. HearsIf is_heard heard self.old.station self.new.station
+            self.old.view self.new.view) }
+        ensures station { OnErr result (self.new.station ≡ self.old.station) }
+        ensures view { OnErr result (self.new.view ≡ self.old.view) }
+    {
         match self.now() {
             Ok(at) => Ok(self.hear_at(at, heard)),
             Err(why) => {
@@ -215,24 +246,52 @@ impl<'a, R: Files<File = File> + Net + Clock + AllocGlobal> Desk<'a, R> {
     }
 
     /// A button of the view with this number was pressed. Answers whether that was heard.
-    pub fn press(&mut self, number: u64, button: Button) -> bool {
+    pub fn press(&mut self, number: u64, button: Button) -> bool
+        ensures { HearsIf result (heard.Pressed number button) self.old.station self.new.station
+            self.old.view self.new.view }
+    {
         matches!(self.hear(Heard::Pressed(number, button)), Ok(true))
     }
 
+    // Hears one thing that is no press. Answers whether it was heard.
+    fn look(&mut self, heard: Heard) -> io::Result<bool>
+        requires { IsUnpressed heard }
+        ensures { OnlyLooks self.old.station self.new.station }
+    {
+        self.hear(heard)
+    }
+
     // Hears the answers that are there.
-    fn hear_answers(&mut self) -> io::Result<()> {
+    #[tactic(auto, using(crate::proofs::WorkLemmas::looks_none, crate::proofs::WorkLemmas::looks_then))]
+    fn hear_answers(&mut self) -> io::Result<()>
+        ensures { OnlyLooks self.old.station self.new.station }
+    {
         for _ in 0..MAX_ANSWERS {
             let Some(heard) = self.asks.hear(self.rt.alloc()) else {
                 return Ok(());
             };
-            let _ = self.hear(heard)?;
+            let _ = self.look(heard)?;
+        }
+        Ok(())
+    }
+
+    // Hears what the files of the store say. A copy that was not heard is read again.
+    fn hear_store(&mut self, heard: Heard) -> io::Result<()>
+        requires { IsUnpressed heard }
+        ensures { OnlyLooks self.old.station self.new.station }
+    {
+        if !self.look(heard)? {
+            self.store.forget();
         }
         Ok(())
     }
 
     // Looks at the files of the store. What came while they were read is heard before the copy: else the next question
-    // for the status could take the place of one whose answer is there. A copy that was not heard is read again.
-    fn look_at_store(&mut self) -> io::Result<()> {
+    // for the status could take the place of one whose answer is there.
+    #[tactic(auto, using(crate::proofs::WorkLemmas::of_store, crate::proofs::WorkLemmas::looks_none, crate::proofs::WorkLemmas::looks_then))]
+    fn look_at_store(&mut self) -> io::Result<()>
+        ensures { OnlyLooks self.old.station self.new.station }
+    {
         let begun = self.now()?;
         if !self.looks.is_due(&self.view, begun) {
             return Ok(());
@@ -242,104 +301,77 @@ impl<'a, R: Files<File = File> + Net + Clock + AllocGlobal> Desk<'a, R> {
             drop(heard);
             return Err(why);
         }
-        if !self.hear(heard)? {
-            self.store.forget();
-        }
-        Ok(())
+        self.hear_store(heard)
     }
 
     // Looks at what the relay has written.
-    fn look_at_relay(&mut self) -> io::Result<()> {
+    #[tactic(auto, using(crate::proofs::WorkLemmas::looks_none, crate::proofs::WorkLemmas::looks_then))]
+    fn look_at_relay(&mut self) -> io::Result<()>
+        ensures { OnlyLooks self.old.station self.new.station }
+    {
         let now = self.now()?;
         if let Some(path) = self.relay {
             if self.relays.is_due(now) {
                 let status = read_young(self.rt, path);
-                let _ = self.hear(Heard::Relay(status))?;
+                let _ = self.look(Heard::Relay(status))?;
             }
         }
         Ok(())
-    }
-
-    // Hears what is kept in a file, if there is something.
-    fn hear_kept(&mut self, kept: Option<Kept>) -> io::Result<()> {
-        match kept {
-            Some(kept) => self.hear(Heard::Kept(kept)).map(|_| ()),
-            None => Ok(()),
-        }
-    }
-
-    // Hears of the alarms that desks keep there. What cannot be read says nothing.
-    fn hear_alarms(&mut self) -> io::Result<()> {
-        let kept = match &mut self.alarms {
-            Some(alarms) => kept_at(&mut alarms.shelf, self.rt.alloc()).ok().flatten(),
-            None => None,
-        };
-        self.hear_kept(kept)
-    }
-
-    // Keeps the alarms, if this desk does. If that fails, it is tried again.
-    fn write_alarms(&mut self) {
-        self.has_changed = false;
-        let Some(alarms) = &mut self.alarms else {
-            return;
-        };
-        if !alarms.is_own {
-            return;
-        }
-        let Ok(kept) = self.station.kept(self.rt.alloc()) else {
-            return;
-        };
-        match keep_at(&mut alarms.shelf, self.rt.alloc(), &kept) {
-            Ok(()) => self.has_lost = false,
-            Err(why) => {
-                if !self.has_lost {
-                    self.loss = Some(why);
-                }
-                self.has_lost = true;
-            }
-        }
-    }
-
-    // Keeps the alarms as soon as there are others, and looks twice a second at what other desks keep.
-    fn look_at_alarms(&mut self) -> io::Result<()> {
-        if self.alarms.is_none() {
-            return Ok(());
-        }
-        let now = self.now()?;
-        if self.keeps.is_due(now) {
-            self.hear_alarms()?;
-        } else if !self.has_changed {
-            return Ok(());
-        }
-        self.write_alarms();
-        Ok(())
-    }
-
-    /// Why the alarms could not be kept, once, if they could not be since.
-    pub fn take_loss(&mut self) -> Option<io::Error> {
-        self.loss.take()
     }
 
     // Lets time pass, if a question for the status is due or no view was made for a while.
-    fn tick(&mut self) -> io::Result<()> {
+    #[tactic(auto, using(crate::proofs::WorkLemmas::looks_none, crate::proofs::WorkLemmas::looks_then))]
+    fn tick(&mut self) -> io::Result<()>
+        ensures { OnlyLooks self.old.station self.new.station }
+    {
         let now = self.now()?;
         if self.ticks.is_due(now) || self.station.due(now) {
-            let _ = self.hear(Heard::Tick)?;
+            let _ = self.look(Heard::Tick)?;
         }
         Ok(())
     }
 
-    /// Hears all that is there, and looks at what is due.
-    pub fn round(&mut self) -> io::Result<()> {
+    // Hears the controller, and looks at the store.
+    #[tactic(auto, using(crate::proofs::WorkLemmas::looks_none, crate::proofs::WorkLemmas::looks_then))]
+    fn look_at_controller(&mut self) -> io::Result<()>
+        ensures { OnlyLooks self.old.station self.new.station }
+    {
         self.hear_answers()?;
-        self.look_at_store()?;
+        self.look_at_store()
+    }
+
+    // Looks at what the relay and other desks have written.
+    #[tactic(auto, using(crate::proofs::WorkLemmas::looks_none, crate::proofs::WorkLemmas::looks_then))]
+    fn look_beside(&mut self) -> io::Result<()>
+        ensures { OnlyLooks self.old.station self.new.station }
+    {
         self.look_at_relay()?;
-        self.look_at_alarms()?;
+        self.look_at_alarms()
+    }
+
+    // Looks at all that is due.
+    #[tactic(auto, using(crate::proofs::WorkLemmas::looks_none, crate::proofs::WorkLemmas::looks_then))]
+    fn look_around(&mut self) -> io::Result<()>
+        ensures { OnlyLooks self.old.station self.new.station }
+    {
+        self.look_at_controller()?;
+        self.look_beside()
+    }
+
+    /// Hears all that is there, and looks at what is due. It presses nothing.
+    #[tactic(auto, using(crate::proofs::WorkLemmas::looks_none, crate::proofs::WorkLemmas::looks_then))]
+    pub fn round(&mut self) -> io::Result<()>
+        ensures { OnlyLooks self.old.station self.new.station }
+    {
+        self.look_around()?;
         self.tick()
     }
 
     /// Waits until something comes, and at most so many milliseconds.
-    pub fn wait(&mut self, most: u64) -> io::Result<()> {
+    pub fn wait(&mut self, most: u64) -> io::Result<()>
+        ensures station { self.new.station ≡ self.old.station }
+        ensures view { self.new.view ≡ self.old.view }
+    {
         self.poll
             .poll(&mut self.events, Some(Duration::from_millis(most)))
     }

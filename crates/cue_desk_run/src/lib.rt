@@ -29,7 +29,8 @@
 //! - What a relay wrote more than five seconds ago by the clock of the wall counts as not read: a desk that has just
 //!   begun would take the last words of a relay that stopped an hour ago for new ones. Later the desk goes by its own
 //!   clock, since when the stamp has not changed.
-//! - A command that is typed is waited for a second by the clock. Stray datagrams neither lengthen nor shorten that.
+//! - A command that is typed is no desk: it is a machine of its own (`cue_ask_machine`), which makes the same letters and
+//!   reads what comes in the same way.
 //!
 //! Only tested: the sockets, the files, the times.
 #![tactic(auto)]
@@ -41,8 +42,6 @@ mod clocks;
 mod desk;
 mod letters;
 mod looks;
-mod naming;
-mod orders;
 mod plain;
 mod reading;
 mod relay;
@@ -53,6 +52,5 @@ pub use addresses::local;
 pub use alarms::AlarmsFile;
 pub use clocks::{Beat, wall_time};
 pub use desk::{Desk, Sources};
-pub use orders::ask_once;
 pub use plain::{open_plain, text_within};
 pub use relay::read_status;

@@ -51,7 +51,9 @@ fn waits_for_store(view: &View) -> bool
 
 impl Looks {
     /// None was made yet.
-    pub fn new() -> Looks {
+    pub fn new() -> Looks
+        ensures { result ≡ looks.begun }
+    {
         Looks {
             often: Beat::of(LOOK),
             soon: Beat::of(SOON),
@@ -61,7 +63,8 @@ impl Looks {
     /// Whether the files are to be looked at, at this moment and with this as the newest view; if so, that counts as
     /// done.
     pub fn is_due(&mut self, view: &View, now: u64) -> bool
-        ensures { result ≡ looks.is_due self.old view.now now }
+        ensures due { result ≡ looks.is_due self.old view.now now }
+        ensures after { self.new ≡ looks.after self.old view.now now }
     {
         if self.often.is_due(now) {
             return true;

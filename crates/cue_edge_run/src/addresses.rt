@@ -56,3 +56,17 @@ pub fn bind<R: Net + AllocGlobal>(
     }
     Ok(sockets)
 }
+
+/// One socket of the same host as this address, connected to it: it hears no other, and the system says at it that
+/// nobody listens there.
+pub fn connected<R: Net + AllocGlobal>(rt: &R, to: Address) -> io::Result<Vec<UdpSocket>>
+    ensures { IfOk result (λ sockets. vec_len sockets ≡ 1) }
+{
+    let from = Address {
+        host: to.host,
+        port: 0,
+    };
+    let socket = UdpSocket::bind(rt, socket_address(from))?;
+    socket.connect(socket_address(to))?;
+    Ok(vec![in rt.alloc(); socket]?)
+}

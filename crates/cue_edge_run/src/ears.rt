@@ -4,11 +4,12 @@ ghost use Rattle.cue_edge_run.specs.Hearing.{IsTryWithin, is_reached, is_time, p
 
 use crate::addresses::address_of;
 use crate::missed::{Missed, why_missed};
+use crate::moments::Moments;
 use crate::ready::Ready;
 use cue_machine::{Ears, EarsFault, Input, Turn};
 use mio::net::UdpSocket;
 use mio::{Events, Interest, Poll, Token};
-use std::io::{self, ErrorKind};
+use std::io;
 use std::net::Net;
 use std::time::{Clock, Duration};
 
@@ -18,10 +19,11 @@ const BATCH: u32 = 64;
 /// The most tries of one call, before it answers a wake.
 const MAX_TRIES: u32 = 65_536;
 
-/// The sockets and the clock. Moments are milliseconds since 1970. It shows nothing of what it told.
+/// The sockets and the clock. It shows nothing of what it told.
 #[derive(Drop)]
 pub struct NetEars<'a, C: Clock> {
     clock: &'a C,
+    moments: Moments,
     sockets: &'a [UdpSocket],
     poll: Poll,
     events: Events,
@@ -30,14 +32,6 @@ pub struct NetEars<'a, C: Clock> {
     last: u64,
     // How many datagrams may still be read before it is looked again.
     left: u32,
-}
-
-// Milliseconds since 1970.
-fn now_of<C: Clock>(clock: &C) -> io::Result<u64> {
-    match u64::try_from(clock.since_1970()?.as_millis()) {
-        Ok(now) => Ok(now),
-        Err(_) => Err(io::Error::from(ErrorKind::InvalidData)),
-    }
 }
 
 // Has each socket say when it has something to read.
@@ -88,25 +82,47 @@ fn woken(now: u64) -> Turn
 }
 
 impl<'a, C: Clock> NetEars<'a, C> {
-    /// Ears at all of these sockets.
-    pub fn new<R: Net + AllocGlobal>(
+    // Ears at all of these sockets, with these moments.
+    fn at<R: Net + AllocGlobal>(
         rt: &R,
         clock: &'a C,
         sockets: &'a mut [UdpSocket],
+        moments: Moments,
     ) -> io::Result<NetEars<'a, C>> {
         let alloc = rt.alloc();
+        let last = moments.now(clock)?;
         let poll = Poll::new(rt)?;
         register(&poll, sockets)?;
         let count = sockets.len();
         Ok(NetEars {
             clock,
+            moments,
             sockets,
             poll,
             events: Events::with_capacity(alloc, count.max(1))?,
             ready: Ready::new(alloc, count)?,
-            last: now_of(clock)?,
+            last,
             left: 0,
         })
+    }
+
+    /// Ears at all of these sockets. Moments are milliseconds since 1970.
+    pub fn new<R: Net + AllocGlobal>(
+        rt: &R,
+        clock: &'a C,
+        sockets: &'a mut [UdpSocket],
+    ) -> io::Result<NetEars<'a, C>> {
+        NetEars::at(rt, clock, sockets, Moments::Wall)
+    }
+
+    /// Ears at all of these sockets. Moments are milliseconds since now, by a clock that nobody sets.
+    pub fn steady<R: Net + AllocGlobal>(
+        rt: &R,
+        clock: &'a C,
+        sockets: &'a mut [UdpSocket],
+    ) -> io::Result<NetEars<'a, C>> {
+        let moments = Moments::steady(clock)?;
+        NetEars::at(rt, clock, sockets, moments)
     }
 
     /// The sockets that it waits at.
@@ -180,7 +196,7 @@ impl<'a, C: Clock> NetEars<'a, C> {
     fn try_next(&mut self, until: Option<u64>, buffer: &mut [u8]) -> io::Result<Option<Turn>>
         ensures { IfOk result (λ turn. IsTryWithin turn (length buffer.old)) }
     {
-        let now = now_of(self.clock)?;
+        let now = self.moments.now(self.clock)?;
         if is_time(self.last, until, now) {
             self.last = now;
             return Ok(Some(woken(now)));

@@ -8,18 +8,22 @@
 //!   another file or a pipe, is removed, and neither followed nor opened.
 //! - A wake that is due comes before any datagram, and sockets are read in turn: no flood keeps a wake or another
 //!   socket waiting.
-//! - A clock that was put back wakes the machine at once, since it cannot be told how long to wait.
+//! - A clock that was put back wakes the machine at once, since it cannot be told how long to wait. What is to take a
+//!   second, whoever sets the clock of the wall, takes its moments from one that nobody sets (`NetEars::steady`).
 #![tactic(auto)]
 
 mod addresses;
 mod ears;
 mod missed;
+mod moments;
 mod mounts;
 mod post;
 mod ready;
 mod replacing;
+mod sending;
 
-pub use addresses::{BindFault, bind};
+pub use addresses::{BindFault, bind, connected};
 pub use ears::NetEars;
 pub use mounts::is_in_memory;
 pub use post::NetPost;
+pub use sending::SocketPost;

@@ -1,9 +1,9 @@
 //! A post over sockets, standard output, standard error, and the program's file.
 ghost use Rattle.std.specs.Prelude.{None};
 
-use crate::addresses::socket_address;
 use crate::replacing::Replaced;
-use cue_machine::{Address, Output, Post, PostFault};
+use crate::sending::send_by;
+use cue_machine::{Output, Post, PostFault};
 use mio::net::UdpSocket;
 use std::alloc::AllocError;
 use std::fs::{File, Files};
@@ -39,18 +39,6 @@ impl<'a, R: Files<File = File> + Eprint + AllocGlobal, W: Write> NetPost<'a, R, 
         })
     }
 
-    // Sends a datagram whole, by the socket of this place.
-    fn send(&self, by: usize, to: Address, bytes: &[u8]) -> io::Result<()> {
-        let Some(socket) = self.sockets.get(by) else {
-            return Err(io::Error::from(ErrorKind::NotFound));
-        };
-        if socket.send_to(bytes, socket_address(to))? == bytes.len() {
-            Ok(())
-        } else {
-            Err(io::Error::from(ErrorKind::WriteZero))
-        }
-    }
-
     // Prints, and sees that all of it left.
     fn print(&mut self, bytes: &[u8]) -> io::Result<()> {
         self.writer.write_all(bytes)?;
@@ -79,7 +67,7 @@ impl<'a, R: Files<File = File> + Eprint + AllocGlobal, W: Write> Post for NetPos
 
     fn post(&mut self, output: Output, bytes: &[u8]) -> Result<(), PostFault> {
         let done = match output {
-            Output::Send { by, to } => self.send(by, to, bytes),
+            Output::Send { by, to } => send_by(self.sockets, by, to, bytes),
             Output::Print => self.print(bytes),
             Output::Say => self.say(bytes),
             Output::Replace => self.replace(bytes),

@@ -1,20 +1,22 @@
 //! The commands of an evening: one message each, as it was typed.
+use cue_ask_machine::{AskEnd, Question, ask, home};
 use cue_asker::AskerName;
 use cue_desk::answered::{Answered, answer_in, ending_of};
+use cue_desk::asking::AskFault;
 use cue_desk::ending::Ending;
 use cue_desk::orders::DeskCommand;
 use cue_desk::ports::PORT;
 use cue_desk::replying::{Replied, Status};
-use cue_desk_run::ask_once;
+use cue_edge_run::{NetEars, SocketPost, connected};
 use cue_exchange::Outcome;
 use cue_operator::CueVerb;
 use cue_saying::{print, say};
 use cue_show::CueNo;
-use cue_station::heard::Heard;
 use cue_words::{code_words, outcome_words};
+use mio::net::UdpSocket;
 use std::alloc::{AllocError, Global};
 use std::fmt::Write as _;
-use std::io::{Eprint, Write};
+use std::io::{self, Eprint, ErrorKind, Write};
 use std::net::Net;
 use std::time::Clock;
 
@@ -129,6 +131,65 @@ fn tell<R: Eprint + AllocGlobal, W: Write>(
     }
 }
 
+// Why a message was lost.
+fn why_lost(fault: Option<io::Error>) -> io::Error {
+    match fault {
+        Some(why) => why,
+        None => io::Error::from(ErrorKind::NotConnected),
+    }
+}
+
+// How a question ended; else why its message could not be sent. If nothing could be heard any more once it was sent, it
+// is not known what became of it, as if nobody had replied.
+fn end_by(ended: Result<Option<AskEnd>, AskFault>, fault: Option<io::Error>) -> io::Result<AskEnd> {
+    match ended {
+        Ok(Some(AskEnd::Lost)) => Err(why_lost(fault)),
+        Ok(Some(end)) => Ok(end),
+        Ok(None) => Ok(AskEnd::Silent),
+        Err(_) => Err(io::Error::from(ErrorKind::OutOfMemory)),
+    }
+}
+
+// Asks it from these sockets, of which there is one.
+fn ask_from<R: Net + Clock + AllocGlobal>(
+    rt: &R,
+    question: &Question<'_>,
+    sockets: &mut [UdpSocket],
+) -> io::Result<AskEnd> {
+    let mut ears = NetEars::steady(rt, rt, sockets)?;
+    let mut post = SocketPost::new(ears.sockets());
+    let ended = ask(rt.alloc(), question, &mut ears, &mut post);
+    let fault = post.take_fault();
+    drop(post);
+    drop(ears);
+    end_by(ended, fault)
+}
+
+// Asks it from a socket of its own: how it ended; else why there is no socket, or nothing was sent.
+fn ask_once<R: Net + Clock + AllocGlobal>(rt: &R, question: &Question<'_>) -> io::Result<AskEnd> {
+    let mut sockets = connected(rt, home(question.port))?;
+    let end = ask_from(rt, question, &mut sockets);
+    drop(sockets);
+    end
+}
+
+// Asks this, with who asks, if there is a name.
+fn ask_as<R: Net + Clock + AllocGlobal>(
+    rt: &R,
+    order: DeskCommand,
+    others: &[CueNo],
+    port: u16,
+    name: Option<&[u8]>,
+) -> io::Result<AskEnd> {
+    let question = Question {
+        order,
+        others,
+        name,
+        port,
+    };
+    ask_once(rt, &question)
+}
+
 // The place before a move, as the controller says it; none if nothing moves, or nobody says it.
 fn place_before<R: Net + Clock + AllocGlobal>(
     rt: &R,
@@ -138,13 +199,10 @@ fn place_before<R: Net + Clock + AllocGlobal>(
     let DeskCommand::OfCue(CueVerb::Goto, _) = order else {
         return None;
     };
-    let heard = ask_once(rt, DeskCommand::Status, &[], port, None);
-    let place = match &heard {
-        Ok(Some(Heard::Replied(_, Replied::Status(status)))) => Some(status.place),
+    match ask_as(rt, DeskCommand::Status, &[], port, None) {
+        Ok(AskEnd::Replied(Replied::Status(status))) => Some(status.place),
         _ => None,
-    };
-    drop(heard);
-    place
+    }
 }
 
 // How to go back from a move that was made.
@@ -179,23 +237,24 @@ fn tell_way_back<W: Write>(
     }
 }
 
-// Says in words what was heard of an order; these stand after the words that nobody replied. After a move from this
-// place it says how to go back.
-fn tell_heard<R: Eprint + AllocGlobal, W: Write>(
+// Says in words how an order ended; these stand after the words that nobody replied. After a move from this place it
+// says how to go back.
+fn tell_end<R: Eprint + AllocGlobal, W: Write>(
     rt: &R,
-    heard: &Option<Heard>,
+    end: &AskEnd,
     words: &str,
     before: Option<Option<CueNo>>,
     port: u16,
     writer: &mut W,
 ) -> Result<(), Ending> {
-    match heard {
-        Some(Heard::Replied(_, replied)) => {
+    match end {
+        AskEnd::Replied(replied) => {
             tell(rt, *replied, writer)?;
             tell_way_back(rt.alloc(), *replied, before, port, writer)
         }
-        Some(Heard::Nobody(_)) => Err(say_alone(rt, port)),
-        _ => Err(say_silent(rt, words, port)),
+        AskEnd::Nobody => Err(say_alone(rt, port)),
+        AskEnd::Silent => Err(say_silent(rt, words, port)),
+        AskEnd::Lost => Err(say_silent(rt, words, port)),
     }
 }
 
@@ -211,12 +270,12 @@ pub fn carry_order<R: Net + Clock + Eprint + AllocGlobal, W: Write>(
 ) -> Result<(), Ending> {
     let words = open_words(&order);
     let before = place_before(rt, order, port);
-    match ask_once(rt, order, others, port, name) {
-        Ok(heard) => {
-            let told = tell_heard(rt, &heard, words, before, port, writer);
-            drop(heard);
-            told
-        }
+    let ended = match &name {
+        Some(name) => ask_as(rt, order, others, port, Some(name.text())),
+        None => ask_as(rt, order, others, port, None),
+    };
+    match ended {
+        Ok(end) => tell_end(rt, &end, words, before, port, writer),
         Err(why) => {
             say(rt, format_args!("no socket: {why}"));
             Err(Ending::Failed)

@@ -1,7 +1,6 @@
 //! The message by which a socket says who asks from it.
-ghost use Rattle.std.specs.Prelude.{◌≡◌, ◌++◌, [], Ok, IfOk, codes};
-ghost use Rattle.cue_osc.specs.Content.{message};
-ghost use Rattle.cue_osc.specs.Reading.{datagram_at};
+ghost use Rattle.std.specs.Prelude.{IfOk};
+ghost use Rattle.cue_ask_machine.specs.Naming.{SaysWho};
 
 use cue_desk::asking::AskFault;
 use cue_osc::{Args, Message, Packet};
@@ -11,8 +10,7 @@ use std::alloc::Global;
 /// refuses it, since it knows no such method, and so its log has the name beside the port. If it is called, the name
 /// is one that `AskerName` reads: no sign in it means anything to OSC.
 pub fn name_datagram(alloc: Global, name: &[u8]) -> Result<Vec<u8>, AskFault>
-    ensures { let said = message (codes "/as/" ++ name.now) [] in
-        IfOk result (λ bytes. datagram_at bytes.items ≡ Ok said) }
+    ensures { IfOk result (λ bytes. SaysWho name.now bytes.items) }
 {
     let mut address = Vec::from_slice(alloc, b"/as/")?;
     address.extend_from_slice(name)?;

@@ -1,0 +1,3 @@
+pub mod LawLemmas
+pub mod LifeLemmas
+pub mod SendLemmas

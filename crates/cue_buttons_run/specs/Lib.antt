@@ -1,1 +1,2 @@
+pub mod Pressing
 pub mod Waiting

@@ -1,4 +1,9 @@
 //! One press by a word, at a desk without a browser: what is wished is pressed once it is lit.
+ghost use Rattle.std.specs.Prelude.{◌≡◌, None};
+ghost use Rattle.cue_buttons_run.specs.Pressing.{AtMost, AtMostMeant};
+ghost use Rattle.cue_desk_run.specs.Working.{OnlyLooks};
+ghost use Rattle.cue_presses.specs.Meaning.{meaning};
+
 use crate::pressing::{Outcome, press_at};
 use cue_board::{became_words, unsent_words};
 use cue_desk::ending::Ending;
@@ -85,7 +90,11 @@ impl<'a, R: Files<File = File> + Net + Clock + Eprint + AllocGlobal> Hand<'a, R>
     }
 
     // Presses what is lit.
-    fn press(&mut self, press: &Press) -> Progress {
+    #[tactic(auto, using(crate::proofs::PressLemmas::at_most, crate::proofs::PressLemmas::at_most_none))]
+    fn press(&mut self, press: &Press) -> Progress
+        ensures { AtMost press.now self.old.desk.station self.new.desk.station self.old.desk.view
+            self.new.desk.view }
+    {
         if !is_lit(self.desk.view(), press) {
             return Progress::Hindered(Hindrance::Dark);
         }
@@ -109,7 +118,10 @@ impl<'a, R: Files<File = File> + Net + Clock + Eprint + AllocGlobal> Hand<'a, R>
     }
 
     // Tries once.
-    fn attempt(&mut self) -> Result<Progress, AllocError> {
+    fn attempt(&mut self) -> Result<Progress, AllocError>
+        ensures { AtMostMeant (meaning self.old.desk.view None self.old.intent) self.old.desk.station
+            self.new.desk.station self.old.desk.view self.new.desk.view }
+    {
         match meaning(self.desk.view(), None, &self.intent) {
             Ok(press) => Ok(self.press(&press)),
             Err(why) => self.hindered(why),
@@ -117,7 +129,9 @@ impl<'a, R: Files<File = File> + Net + Clock + Eprint + AllocGlobal> Hand<'a, R>
     }
 
     // Hears what is there. Answers the moment.
-    fn round(&mut self) -> Result<u64, Ending> {
+    fn round(&mut self) -> Result<u64, Ending>
+        ensures { OnlyLooks self.old.desk.station self.new.desk.station }
+    {
         if let Err(why) = self.desk.round() {
             return Err(failed(self.rt, &why));
         }

@@ -10,7 +10,7 @@
 //! - A device that is taken out ends the reading with an error. Of a path that names something else by now nobody
 //!   tells, so it is looked at each second.
 //!
-//! Only tested.
+//! Only tested: the device, which of its bytes are heard and when, and the lines.
 #![tactic(auto)]
 
 mod device;

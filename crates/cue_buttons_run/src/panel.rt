@@ -1,4 +1,9 @@
 //! What is heard of a real desk, and what it presses, as lines of text.
+ghost use Rattle.std.specs.Prelude.{◌≡◌};
+ghost use Rattle.cue_buttons_run.specs.Pressing.{AtMost, Strikes, StrikesSpoken, Takes};
+ghost use Rattle.cue_presses.specs.Address.{spoken_to};
+ghost use Rattle.cue_presses.specs.Hand.{comes_of};
+
 mod telling;
 
 use crate::pressing::{Outcome, press_at};
@@ -118,7 +123,9 @@ impl<'a, R: Files<File = File> + Net + Clock + AllocGlobal> Panel<'a, R> {
     }
 
     /// Puts a line after the others.
-    pub fn line<D: Display + Drop>(&mut self, what: D) -> Result<(), AllocError> {
+    pub fn line<D: Display + Drop>(&mut self, what: D) -> Result<(), AllocError>
+        ensures desk { self.new.desk ≡ self.old.desk }
+    {
         write!(self.text, "{what}\n")
     }
 
@@ -151,13 +158,17 @@ impl<'a, R: Files<File = File> + Net + Clock + AllocGlobal> Panel<'a, R> {
     }
 
     /// A device is opened at this moment.
-    pub fn opened(&mut self, now: u64) {
+    pub fn opened(&mut self, now: u64)
+        ensures desk { self.new.desk ≡ self.old.desk }
+    {
         self.parser = Parser::new();
         self.hand = self.hand.opened(now);
     }
 
     /// A round begins at this moment.
-    pub fn begin(&mut self, now: u64) {
+    pub fn begin(&mut self, now: u64)
+        ensures desk { self.new.desk ≡ self.old.desk }
+    {
         self.hand = self.hand.begun(now);
     }
 
@@ -167,7 +178,9 @@ impl<'a, R: Files<File = File> + Net + Clock + AllocGlobal> Panel<'a, R> {
     }
 
     /// A read in this round has found nothing: all that waited in the device is heard.
-    pub fn emptied(&mut self) {
+    pub fn emptied(&mut self)
+        ensures desk { self.new.desk ≡ self.old.desk }
+    {
         self.hand = self.hand.emptied();
     }
 
@@ -182,7 +195,11 @@ impl<'a, R: Files<File = File> + Net + Clock + AllocGlobal> Panel<'a, R> {
     }
 
     // Takes what is heard.
-    fn take(&mut self, heard: &Heard) -> Result<(), AllocError> {
+    #[tactic(auto, using(crate::proofs::PressLemmas::strikes_none_by))]
+    fn take(&mut self, heard: &Heard) -> Result<(), AllocError>
+        ensures { Takes self.old.setting self.old.hand heard.now self.old.desk.station self.new.desk.station
+            self.old.desk.view self.new.desk.view }
+    {
         if let Heard::Show(show) = heard {
             return self.take_show(show);
         }
@@ -202,7 +219,9 @@ impl<'a, R: Files<File = File> + Net + Clock + AllocGlobal> Panel<'a, R> {
     }
 
     // Says that a controller is down, and was not heard to be let go since the device was opened.
-    fn say_first(&mut self, passed: Passed) -> Result<(), AllocError> {
+    fn say_first(&mut self, passed: Passed) -> Result<(), AllocError>
+        ensures desk { self.new.desk ≡ self.old.desk }
+    {
         let words = passed.words(self.rt.alloc())?;
         let words = words.as_str();
         self.line(format_args!(
@@ -211,7 +230,9 @@ impl<'a, R: Files<File = File> + Net + Clock + AllocGlobal> Panel<'a, R> {
     }
 
     // Counts what is no key.
-    fn pass(&mut self, passed: Passed) -> Result<(), AllocError> {
+    fn pass(&mut self, passed: Passed) -> Result<(), AllocError>
+        ensures desk { self.new.desk ≡ self.old.desk }
+    {
         if self.tally.count(passed)? {
             let words = passed.words(self.rt.alloc())?;
             let words = words.as_str();
@@ -221,7 +242,10 @@ impl<'a, R: Files<File = File> + Net + Clock + AllocGlobal> Panel<'a, R> {
     }
 
     // Takes a command of show control.
-    fn take_show(&mut self, show: &Show) -> Result<(), AllocError> {
+    fn take_show(&mut self, show: &Show) -> Result<(), AllocError>
+        ensures { StrikesSpoken (spoken_to self.old.setting.address show.now) self.old.hand self.old.desk.station
+            self.new.desk.station self.old.desk.view self.new.desk.view }
+    {
         match spoken_to(&self.setting.address, show) {
             Spoken::Intent(intent) => self.intent("show control", &intent),
             Spoken::Elsewhere => self.pass(Passed::Elsewhere),
@@ -237,7 +261,9 @@ impl<'a, R: Files<File = File> + Net + Clock + AllocGlobal> Panel<'a, R> {
     }
 
     // Whether one press more is heard in this round.
-    fn takes_finger(&mut self) -> bool {
+    fn takes_finger(&mut self) -> bool
+        ensures desk { self.new.desk ≡ self.old.desk }
+    {
         let has_room = self.hand.has_room();
         if !has_room {
             self.flooded = self.flooded.saturating_add(1);
@@ -247,7 +273,10 @@ impl<'a, R: Files<File = File> + Net + Clock + AllocGlobal> Panel<'a, R> {
     }
 
     // Somebody intends something, by this key.
-    fn intent(&mut self, source: &str, intent: &Intent) -> Result<(), AllocError> {
+    fn intent(&mut self, source: &str, intent: &Intent) -> Result<(), AllocError>
+        ensures { Strikes (comes_of self.old.hand self.old.desk.view intent.now) self.old.desk.station
+            self.new.desk.station self.old.desk.view self.new.desk.view }
+    {
         let struck = self.hand.strikes(self.desk.view(), intent);
         self.hand = self.hand.counted();
         match struck {
@@ -268,7 +297,9 @@ impl<'a, R: Files<File = File> + Net + Clock + AllocGlobal> Panel<'a, R> {
     }
 
     // Says why an intent presses nothing.
-    fn refuse(&mut self, source: &str, intent: &Intent, why: Why) -> Result<(), AllocError> {
+    fn refuse(&mut self, source: &str, intent: &Intent, why: Why) -> Result<(), AllocError>
+        ensures desk { self.new.desk ≡ self.old.desk }
+    {
         let alloc = self.rt.alloc();
         let words = match trouble_words(alloc, self.desk.view(), self.setting.port)? {
             Some(words) => words,
@@ -280,7 +311,11 @@ impl<'a, R: Files<File = File> + Net + Clock + AllocGlobal> Panel<'a, R> {
     }
 
     // Presses.
-    fn press(&mut self, source: &str, press: &Press) -> Result<(), AllocError> {
+    #[tactic(auto, using(crate::proofs::PressLemmas::at_most, crate::proofs::PressLemmas::at_most_none))]
+    fn press(&mut self, source: &str, press: &Press) -> Result<(), AllocError>
+        ensures { AtMost press.now self.old.desk.station self.new.desk.station self.old.desk.view
+            self.new.desk.view }
+    {
         let alloc = self.rt.alloc();
         let button = button_words(alloc, press.button, self.desk.together())?;
         let button = button.as_str();
@@ -296,7 +331,9 @@ impl<'a, R: Files<File = File> + Net + Clock + AllocGlobal> Panel<'a, R> {
     }
 
     // Notes a press that is sent.
-    fn note(&mut self, button: Button, ask: u64, what: String) {
+    fn note(&mut self, button: Button, ask: u64, what: String)
+        ensures desk { self.new.desk ≡ self.old.desk }
+    {
         let passed = self.hand.passed;
         self.hand = self.hand.sent(self.desk.view(), button);
         let newest = Pending {
@@ -310,7 +347,9 @@ impl<'a, R: Files<File = File> + Net + Clock + AllocGlobal> Panel<'a, R> {
     }
 
     // Says why a press was not sent.
-    fn say_unsent(&mut self, what: &str, unsent: Unsent) -> Result<(), AllocError> {
+    fn say_unsent(&mut self, what: &str, unsent: Unsent) -> Result<(), AllocError>
+        ensures desk { self.new.desk ≡ self.old.desk }
+    {
         match trouble_words(self.rt.alloc(), self.desk.view(), self.setting.port)? {
             Some(words) => {
                 let words = words.as_str();

@@ -1,5 +1,7 @@
 //! One connection to the page: it asks once, is answered, and is closed.
-ghost use Rattle.std.specs.Prelude.{◌≤◌, length, IfOk, IfSome};
+ghost use Rattle.std.specs.Prelude.{◌≡◌, ◌≤◌, false, true, length, option_map, IfOk, IfSome};
+ghost use Rattle.cue_request.specs.Requests.{IsCommand, OnCommand};
+ghost use Rattle.cue_web.specs.Serving.{AsksIn, IsPressIn, is_asking};
 
 use cue_request::identity::PageIdentity;
 use cue_request::lock::{Said, said_at};
@@ -30,6 +32,16 @@ enum Stage {
     /// Its answer is sent; what it still says is read and dropped, so that the answer arrives.
     Leaving,
     Gone,
+}
+
+// Whether the request is awaited.
+fn is_asking(stage: Stage) -> bool
+    ensures { result ≡ is_asking stage }
+{
+    match stage {
+        Stage::Asking => true,
+        Stage::Hearing | Stage::Leaving | Stage::Gone => false,
+    }
 }
 
 /// A press that came.
@@ -90,8 +102,11 @@ pub struct Connection {
     until: u64,
 }
 
-// The press that stands in the body of a request.
-fn pressed_in(identity: &PageIdentity<'_>, request: &Request<'_>) -> Option<Pressed> {
+// The press that stands in the body of a command.
+fn pressed_in(identity: &PageIdentity<'_>, input: &[u8], request: &Request<'_>) -> Option<Pressed>
+    requires { IsCommand identity.now input.now request.now.body.now (option_map (λ v. v.now) request.now.word) }
+    ensures { IfSome result (IsPressIn identity.now input.now) }
+{
     let (view, button) = read_press(request.body)?;
     Some(Pressed {
         view,
@@ -100,24 +115,44 @@ fn pressed_in(identity: &PageIdentity<'_>, request: &Request<'_>) -> Option<Pres
     })
 }
 
-// What stands for a request that has come whole.
-fn asking_in(identity: &PageIdentity<'_>, input: &[u8]) -> Option<Asking> {
+// What a request asks.
+fn asking_of(identity: &PageIdentity<'_>, input: &[u8], request: &Request<'_>) -> Asking
+    requires { OnCommand request.now.asked (λ _.
+        IsCommand identity.now input.now request.now.body.now (option_map (λ v. v.now) request.now.word)) }
+    ensures { AsksIn identity.now input.now result }
+{
+    match request.asked {
+        Asked::Page => Asking::Page,
+        Asked::Board => Asking::View,
+        Asked::ShowFile => Asking::ShowFile,
+        Asked::Command(_) => Asking::Press(pressed_in(identity, input, request)),
+    }
+}
+
+// What is asked by what came, if that is a whole request, or is refused.
+fn asking_in(identity: &PageIdentity<'_>, input: &[u8]) -> Option<Asking>
+    ensures { IfSome result (AsksIn identity.now input.now) }
+{
     match read_request(identity, input) {
-        Ok(Some(request)) => Some(match request.asked {
-            Asked::Page => Asking::Page,
-            Asked::Board => Asking::View,
-            Asked::ShowFile => Asking::ShowFile,
-            Asked::Command(_) => Asking::Press(pressed_in(identity, &request)),
-        }),
+        Ok(Some(request)) => Some(asking_of(identity, input, &request)),
         Ok(None) => None,
         Err(refusal) => Some(Asking::Refused(refusal)),
     }
 }
 
-// Whether an empty line stands in these bytes: lines may end with a line feed alone, as `httparse` reads them.
+// Whether a line that begins here is empty: it may end with a line feed alone, as `httparse` reads them.
+fn is_empty_line(bytes: &[u8], at: usize) -> bool {
+    match bytes.get(at) {
+        Some(b'\n') => true,
+        Some(b'\r') => bytes.get(at.saturating_add(1)) == Some(&b'\n'),
+        _ => false,
+    }
+}
+
+// Whether an empty line follows the end of a line in these bytes.
 fn has_empty_line(bytes: &[u8]) -> bool {
-    bytes.windows(2).any(|two| two == b"\n\n".as_slice())
-        || bytes.windows(3).any(|three| three == b"\n\r\n".as_slice())
+    bytes.iter().enumerate().any(|(at, byte)| *byte == b'\n'
+        && is_empty_line(bytes, at.saturating_add(1)))
 }
 
 // Where what has come begins, but for ends of lines: those before a head say nothing.
@@ -195,22 +230,26 @@ impl Connection {
         Ok(self.input.len() > before)
     }
 
-    // That its request did not come whole, in time or at all. One that said nothing is closed without an answer.
-    fn incomplete(&mut self) -> Option<Asking> {
+    // Why it is refused if its request did not come whole, in time or at all. One that said nothing is closed without an
+    // answer.
+    fn incomplete(&mut self) -> Option<Refusal> {
         if self.input.is_empty() {
             self.stage = Stage::Gone;
             return None;
         }
-        Some(Asking::Refused(if self.has_ended {
+        Some(if self.has_ended {
             Refusal::Unreadable
         } else {
             Refusal::Late
-        }))
+        })
     }
 
     // What it asks after it has grown from so many bytes, if that has come whole or is refused. Until the end of its
     // head has come, nothing is read but what came first, and what is too long.
-    fn asking_since(&mut self, identity: &PageIdentity<'_>, before: usize) -> Option<Asking> {
+    fn asking_since(&mut self, identity: &PageIdentity<'_>, before: usize) -> Option<Asking>
+        ensures asks { IfSome result (AsksIn identity.now self.new.input.items) }
+        ensures stage { self.new.stage ≡ self.old.stage }
+    {
         self.has_head = self.has_head || ends_head(&self.input, before);
         let is_read = self.has_head || before == 0 || self.input.len() > MAX_HEAD;
         if is_read {
@@ -220,36 +259,56 @@ impl Connection {
         }
     }
 
+    // What it asks by now, if that has come whole or is refused. It fails if nothing more can be read.
+    fn asking_now(&mut self, identity: &PageIdentity<'_>) -> io::Result<Option<Asking>>
+        ensures { IfOk result (λ asking. IfSome asking (AsksIn identity.now self.new.input.items)) }
+    {
+        let before = self.input.len();
+        if self.read_on()? {
+            Ok(self.asking_since(identity, before))
+        } else {
+            Ok(None)
+        }
+    }
+
     /// Hears what it asks, if that has come whole, is refused, came too late or has ended before. What has not grown is
     /// not read again, nor a head that grows until its end has come.
-    pub fn hear(&mut self, identity: &PageIdentity<'_>, now: u64) -> Option<Asking> {
-        if self.stage != Stage::Asking {
+    pub fn hear(&mut self, identity: &PageIdentity<'_>, now: u64) -> Option<Asking>
+        ensures asks { IfSome result (AsksIn identity.now self.new.input.items) }
+        ensures first { IfSome result (λ _. is_asking self.old.stage ≡ true) }
+    {
+        if !is_asking(self.stage) {
             return None;
         }
-        let before = self.input.len();
-        let asking = match self.read_on() {
-            Ok(true) => self.asking_since(identity, before),
-            Ok(false) => None,
+        match self.asking_now(identity) {
+            Ok(Some(asking)) => Some(asking),
+            Ok(None) if now < self.until && !self.has_ended => None,
+            Ok(None) => match self.incomplete() {
+                Some(why) => Some(Asking::Refused(why)),
+                None => None,
+            },
             Err(_) => {
                 self.stage = Stage::Gone;
-                return None;
+                None
             }
-        };
-        if asking.is_some() || (now < self.until && !self.has_ended) {
-            return asking;
         }
-        self.incomplete()
     }
 
     /// Answers it.
-    pub fn tell(&mut self, answer: Answer, now: u64) {
+    pub fn tell(&mut self, answer: Answer, now: u64)
+        ensures over { is_asking self.new.stage ≡ false }
+        ensures input { self.new.input ≡ self.old.input }
+    {
         self.output = answer;
         self.stage = Stage::Hearing;
         self.until = now.saturating_add(PATIENCE);
     }
 
     /// It is closed without an answer.
-    pub fn leave(&mut self) {
+    pub fn leave(&mut self)
+        ensures over { is_asking self.new.stage ≡ false }
+        ensures input { self.new.input ≡ self.old.input }
+    {
         self.stage = Stage::Gone;
     }
 

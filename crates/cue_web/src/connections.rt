@@ -1,5 +1,7 @@
 //! The connections to the page. None of them can keep the others waiting: each has a second, and if there are many
 //! the one that has waited longest gives way.
+ghost use Rattle.cue_web.specs.Serving.{Serves};
+
 use crate::connection::Connection;
 use crate::pages::Pages;
 use cue_desk_run::Desk;
@@ -35,6 +37,28 @@ fn next_stream(listener: &TcpListener, registry: &Registry) -> Option<TcpStream>
     let both = Interest::READABLE | Interest::WRITABLE;
     registry.register(&mut stream, CONNECTION, both).ok()?;
     Some(stream)
+}
+
+// Hears one connection, and answers what it asks: once, and then it asks nothing more. One for whose answer there is no
+// memory is closed without one.
+#[tactic(auto, using(crate::proofs::ServeLemmas::served, crate::proofs::ServeLemmas::unasked))]
+fn serve_one<R: Files<File = File> + Net + Clock + AllocGlobal>(
+    alloc: Global,
+    connection: &mut Connection,
+    desk: &mut Desk<'_, R>,
+    pages: &mut Pages<'_>,
+    now: u64,
+)
+    ensures { Serves pages.old.identity pages.old.guard now connection.old connection.new desk.old.station
+        desk.new.station desk.old.view desk.new.view }
+{
+    let Some(asking) = connection.hear(pages.identity(), now) else {
+        return;
+    };
+    match pages.answer(desk, alloc, &asking, now) {
+        Ok(answer) => connection.tell(answer, now),
+        Err(AllocError) => connection.leave(),
+    }
 }
 
 impl Connections {
@@ -73,7 +97,7 @@ impl Connections {
         true
     }
 
-    /// One round over all connections. One for whose answer there is no memory is closed without one.
+    /// One round over all connections.
     pub fn serve<R: Files<File = File> + Net + Clock + AllocGlobal>(
         &mut self,
         alloc: Global,
@@ -82,12 +106,7 @@ impl Connections {
         now: u64,
     ) {
         for connection in self.open.iter_mut() {
-            if let Some(asking) = connection.hear(pages.identity(), now) {
-                match pages.answer(desk, alloc, &asking, now) {
-                    Ok(answer) => connection.tell(answer, now),
-                    Err(AllocError) => connection.leave(),
-                }
-            }
+            serve_one(alloc, connection, desk, pages, now);
             connection.go_on(pages.page(), now);
         }
         self.open.retain(|connection| connection.is_here());

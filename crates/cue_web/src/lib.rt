@@ -16,7 +16,7 @@
 //!   connection is lent: who asks slowly, or reads nothing, costs little.
 //! - The text of the newest view is kept until the next view: ten who ask for it cost one drawing.
 //!
-//! Only tested: the connections.
+//! Only tested: how long a connection has, and what it reads and sends.
 #![tactic(auto)]
 
 mod connection;

@@ -1,4 +1,9 @@
 //! What the page is answered: itself, the newest view, the show file, and the view that a press has made.
+ghost use Rattle.std.specs.Prelude.{◌≡◌};
+ghost use Rattle.cue_request.specs.Locks.{verdict_on};
+ghost use Rattle.cue_web.specs.Serving.{Answers, HearsOnce, HearsUnless};
+ghost use Rattle.cue_web.specs.declared.connection.Asking.TheVariants as asking;
+
 use crate::connection::{Answer, Asking, Pressed};
 use cue_board::Names;
 use cue_desk_run::Desk;
@@ -118,7 +123,9 @@ impl<'a> Pages<'a> {
     }
 
     /// Where the page is.
-    pub fn identity(&self) -> &PageIdentity<'a> {
+    pub fn identity(&self) -> &PageIdentity<'a>
+        ensures { result.now ≡ self.now.identity }
+    {
         &self.identity
     }
 
@@ -159,6 +166,22 @@ impl<'a> Pages<'a> {
         json_answer(alloc, Outcome::Done, self.text.as_str())
     }
 
+    // The view that follows this press, which the lock lets through.
+    fn heard_answer<R: Files<File = File> + Net + Clock + AllocGlobal>(
+        &mut self,
+        desk: &mut Desk<'_, R>,
+        alloc: Global,
+        pressed: &Pressed,
+    ) -> Result<String, AllocError>
+        ensures { HearsOnce pressed.now desk.old.station desk.new.station desk.old.view desk.new.view }
+    {
+        if desk.press(pressed.view, pressed.button) {
+            self.view_answer(desk, alloc)
+        } else {
+            trouble_answer(alloc, Outcome::Unavailable, NO_MEMORY)
+        }
+    }
+
     // The view that follows this press, or why the lock refuses it.
     fn pressed_answer<R: Files<File = File> + Net + Clock + AllocGlobal>(
         &mut self,
@@ -166,14 +189,13 @@ impl<'a> Pages<'a> {
         alloc: Global,
         pressed: &Pressed,
         now: u64,
-    ) -> Result<String, AllocError> {
-        if let Some(refusal) = self.guard.judge(pressed.button, now, pressed.said) {
-            return refused_answer(alloc, refusal);
-        }
-        if desk.press(pressed.view, pressed.button) {
-            self.view_answer(desk, alloc)
-        } else {
-            trouble_answer(alloc, Outcome::Unavailable, NO_MEMORY)
+    ) -> Result<String, AllocError>
+        ensures { HearsUnless (verdict_on pressed.now.button self.old.guard now pressed.now.said) pressed.now
+            desk.old.station desk.new.station desk.old.view desk.new.view }
+    {
+        match self.guard.judge(pressed.button, now, pressed.said) {
+            Some(refusal) => refused_answer(alloc, refusal),
+            None => self.heard_answer(desk, alloc, pressed),
         }
     }
 
@@ -184,7 +206,10 @@ impl<'a> Pages<'a> {
         alloc: Global,
         press: &Option<Pressed>,
         now: u64,
-    ) -> Result<String, AllocError> {
+    ) -> Result<String, AllocError>
+        ensures { Answers self.old.guard now (asking.Press press.now) desk.old.station desk.new.station
+            desk.old.view desk.new.view }
+    {
         match press {
             Some(pressed) => self.pressed_answer(desk, alloc, pressed, now),
             None => trouble_answer(alloc, Outcome::Refused(Refusal::Unreadable), NO_PRESS),
@@ -212,7 +237,10 @@ impl<'a> Pages<'a> {
         alloc: Global,
         asking: &Asking,
         now: u64,
-    ) -> Result<Answer, AllocError> {
+    ) -> Result<Answer, AllocError>
+        ensures { Answers self.old.guard now asking.now desk.old.station desk.new.station desk.old.view
+            desk.new.view }
+    {
         let text = match asking {
             Asking::Page => return Ok(Answer::Page),
             Asking::View => self.view_answer(desk, alloc)?,

@@ -1,4 +1,7 @@
 //! What became of the presses of a panel, as lines of text.
+ghost use Rattle.std.specs.Prelude.{◌≡◌};
+ghost use Rattle.cue_desk_run.specs.Working.{OnlyLooks};
+
 use crate::panel::{Panel, Pending};
 use cue_board::became_words;
 use cue_view::view::Became;
@@ -35,8 +38,10 @@ fn told(pending: Pending) -> Pending {
 }
 
 impl<R: Files<File = File> + Net + Clock + AllocGlobal> Panel<'_, R> {
-    /// Hears the controller and the store, and says what became of a press.
-    pub fn round(&mut self) -> io::Result<()> {
+    /// Hears the controller and the store, and says what became of a press. It presses nothing.
+    pub fn round(&mut self) -> io::Result<()>
+        ensures { OnlyLooks self.old.desk.station self.new.desk.station }
+    {
         self.desk.round()?;
         self.say_pending()?;
         self.say_dropped()?;
@@ -54,7 +59,9 @@ impl<R: Files<File = File> + Net + Clock + AllocGlobal> Panel<'_, R> {
     }
 
     // Says what became of a press.
-    fn say_became(&mut self, what: &str, became: Became) -> Result<(), AllocError> {
+    fn say_became(&mut self, what: &str, became: Became) -> Result<(), AllocError>
+        ensures desk { self.new.desk ≡ self.old.desk }
+    {
         let words = became_words(self.rt.alloc(), became, self.setting.port)?;
         let words = words.as_str();
         self.line(format_args!("{what}: {words}"))
@@ -62,7 +69,9 @@ impl<R: Files<File = File> + Net + Clock + AllocGlobal> Panel<'_, R> {
 
     // Says what became of a press once it is settled, and that it is open, if that lasts. It is given back until its
     // end is told.
-    fn say_press(&mut self, pending: Pending) -> Result<Option<Pending>, AllocError> {
+    fn say_press(&mut self, pending: Pending) -> Result<Option<Pending>, AllocError>
+        ensures desk { self.new.desk ≡ self.old.desk }
+    {
         let Some(became) = self.became(pending.ask) else {
             return Ok(Some(pending));
         };
@@ -80,7 +89,9 @@ impl<R: Files<File = File> + Net + Clock + AllocGlobal> Panel<'_, R> {
     }
 
     // Says what became of the press before the newest one, and of that.
-    fn say_pending(&mut self) -> Result<(), AllocError> {
+    fn say_pending(&mut self) -> Result<(), AllocError>
+        ensures desk { self.new.desk ≡ self.old.desk }
+    {
         if let Some(before) = self.before.take() {
             self.before = self.say_press(before)?;
         }
@@ -95,7 +106,9 @@ impl<R: Files<File = File> + Net + Clock + AllocGlobal> Panel<'_, R> {
     }
 
     // Says what was dropped.
-    fn say_dropped(&mut self) -> Result<(), AllocError> {
+    fn say_dropped(&mut self) -> Result<(), AllocError>
+        ensures desk { self.new.desk ≡ self.old.desk }
+    {
         if self.waited > 0 && self.hand.settling.is_over() {
             let waited = mem::replace(&mut self.waited, 0);
             self.line(format_args!(

@@ -1,0 +1,81 @@
+-- What is pressed at a desk without a browser, and by what.
+use Rattle.std.specs.Prelude.{◌≡◌, ◌⊎◌, Bool, true, false, ℕ, Option, None, Some, Result, Ok, Err}
+use Rattle.cue_desk_run.specs.Working.{HearsIf, Stays}
+use Rattle.cue_midi.specs.declared.heard.Heard.{Heard}
+use Rattle.cue_midi.specs.declared.heard.Heard.TheVariants as midi
+use Rattle.cue_presses.specs.declared.address.Spoken.{Spoken}
+use Rattle.cue_presses.specs.declared.address.Spoken.TheVariants as spoken
+use Rattle.cue_presses.specs.declared.hand.Hand.{Hand}
+use Rattle.cue_presses.specs.declared.hand.Struck.{Struck}
+use Rattle.cue_presses.specs.declared.hand.Struck.TheVariants as struck
+use Rattle.cue_presses.specs.declared.intent.Intent.{Intent}
+use Rattle.cue_presses.specs.declared.pressing.Press.{Press}
+use Rattle.cue_presses.specs.declared.pressing.Why.{Why}
+use Rattle.cue_presses.specs.Address.{spoken_to}
+use Rattle.cue_presses.specs.Hand.{after, comes_of}
+use Rattle.cue_presses.specs.Keys.{intent_of}
+use Rattle.cue_station.specs.declared.heard.Heard.TheVariants as heard
+use Rattle.cue_station.specs.declared.station.Station.{Station}
+use Rattle.cue_view.specs.declared.button.Button.{Button}
+use Rattle.cue_view.specs.declared.button.Button.TheVariants as button
+use Rattle.cue_view.specs.declared.view.View.{View}
+use Rattle.cue_buttons_run.specs.declared.panel.Setting.{Setting}
+
+-- ---- one press
+
+-- the desk heard that this button of its newest view was pressed, or could not hear it
+abbrev pub PressesOne : Bool → Button → (old new : Station) → (v v_then : View) → Type 0
+PressesOne is_heard b old new v v_then = HearsIf is_heard (heard.Pressed v.number b) old new v v_then
+
+-- the attempt is chosen first, if it has to be
+abbrev pub Chooses : Bool → Option ℕ → (old new : Station) → (v v_then : View) → Type 0
+Chooses is_heard None old new v v_then = (is_heard ≡ true) × Stays old new v v_then
+Chooses is_heard (Some q) old new v v_then = PressesOne is_heard (button.Choose q) old new v v_then
+
+pub record PressesButton (b : Button) (old new : Station) (v v_then : View) : Type 0 where
+  pub is_heard : Bool
+  pub pressed : PressesOne is_heard b old new v v_then
+
+-- then the button is pressed, if the choice was heard
+abbrev pub PressesIf : Bool → Button → (old new : Station) → (v v_then : View) → Type 0
+PressesIf true b old new v v_then = PressesButton b old new v v_then
+PressesIf false b old new v v_then = Stays old new v v_then
+
+-- Its attempt is chosen, if it has to be, and then its button is pressed, each of the newest view. Nothing else is.
+pub record Presses (p : Press) (old new : Station) (v v_then : View) : Type 0 where
+  pub mid : Station
+  pub mid_view : View
+  pub is_chosen : Bool
+  pub chosen : Chooses is_chosen p.choose old mid v mid_view
+  pub pressed : PressesIf is_chosen p.button mid new mid_view v_then
+
+-- this is pressed and nothing else, or nothing
+abbrev pub AtMost : Press → (old new : Station) → (v v_then : View) → Type 0
+AtMost p old new v v_then = Presses p old new v v_then ⊎ Stays old new v v_then
+
+-- what is meant is pressed at most
+abbrev pub AtMostMeant : Result Press Why → (old new : Station) → (v v_then : View) → Type 0
+AtMostMeant (Ok p) old new v v_then = AtMost p old new v v_then
+AtMostMeant (Err w) old new v v_then = Stays old new v v_then
+
+-- ---- what is struck
+
+-- what comes of an intent is pressed at most
+abbrev pub Strikes : Struck → (old new : Station) → (v v_then : View) → Type 0
+Strikes (struck.Presses p) old new v v_then = AtMost p old new v v_then
+Strikes _ old new v v_then = Stays old new v v_then
+
+-- a key has its intent; what is no key has none
+abbrev pub StrikesBy : Option Intent → Hand → (old new : Station) → (v v_then : View) → Type 0
+StrikesBy (Some i) h old new v v_then = Strikes (comes_of h v i) old new v v_then
+StrikesBy None h old new v v_then = Stays old new v v_then
+
+-- so has a command of show control that is for this desk
+abbrev pub StrikesSpoken : Spoken → Hand → (old new : Station) → (v v_then : View) → Type 0
+StrikesSpoken (spoken.Intent i) h old new v v_then = Strikes (comes_of h v i) old new v v_then
+StrikesSpoken _ h old new v v_then = Stays old new v v_then
+
+-- What one message of MIDI presses at most: that of the key that was struck, or of the command that was spoken.
+abbrev pub Takes : Setting → Hand → Heard → (old new : Station) → (v v_then : View) → Type 0
+Takes s h (midi.Show show) old new v v_then = StrikesSpoken (spoken_to s.address show) h old new v v_then
+Takes s h m old new v v_then = StrikesBy (intent_of s.keys h.pedals m) (after s.keys m h) old new v v_then

@@ -1,0 +1,67 @@
+-- What a page lets the desk hear.
+use Rattle.std.specs.Prelude.{◌≡◌, ◌⊎◌, ℕ, Bool, true, false, List, Option, None, Some}
+use Rattle.cue_desk_run.specs.Working.{HearsIf, Stays}
+use Rattle.cue_request.specs.declared.identity.PageIdentity.{PageIdentity}
+use Rattle.cue_request.specs.declared.lock.Guard.{Guard}
+use Rattle.cue_request.specs.declared.request.Refusal.{Refusal}
+use Rattle.cue_request.specs.Locks.{said_at, verdict_on}
+use Rattle.cue_request.specs.Presses.{body_of}
+use Rattle.cue_request.specs.Requests.{IsCommand}
+use Rattle.cue_station.specs.declared.heard.Heard.TheVariants as heard
+use Rattle.cue_station.specs.declared.station.Station.{Station}
+use Rattle.cue_view.specs.declared.view.View.{View}
+use Rattle.cue_web.specs.declared.connection.Asking.{Asking}
+use Rattle.cue_web.specs.declared.connection.Asking.TheVariants as asking
+use Rattle.cue_web.specs.declared.connection.Connection.{Connection}
+use Rattle.cue_web.specs.declared.connection.Pressed.{Pressed}
+use Rattle.cue_web.specs.declared.connection.Stage.{Stage}
+use Rattle.cue_web.specs.declared.connection.Stage.TheVariants as stage
+
+-- What came from a connection is a command of our own page, whose body names this view and this button, and which says
+-- this of the word of the lock.
+pub record IsPressIn (identity : PageIdentity) (bytes : List ℕ) (p : Pressed) : Type 0 where
+  pub body : List ℕ
+  pub word : Option (List ℕ)
+  pub command : IsCommand identity bytes body word
+  pub names : body ≡ body_of p.view p.button
+  pub says : p.said ≡ said_at identity.purpose word
+
+-- if it asks for a press, what came is one
+abbrev pub AsksIn : PageIdentity → List ℕ → Asking → Type 0
+AsksIn identity bytes (asking.Press (Some p)) = IsPressIn identity bytes p
+AsksIn identity bytes _ = Unit {0}
+
+-- The desk heard of this press once at most, as one of the view that it names.
+pub record HearsOnce (p : Pressed) (old new : Station) (v v_then : View) : Type 0 where
+  pub is_heard : Bool
+  pub hears : HearsIf is_heard (heard.Pressed p.view p.button) old new v v_then
+
+-- a press that the lock refuses is not heard
+abbrev pub HearsUnless : Option Refusal → Pressed → (old new : Station) → (v v_then : View) → Type 0
+HearsUnless (Some why) p old new v v_then = Stays old new v v_then
+HearsUnless None p old new v v_then = HearsOnce p old new v v_then
+
+-- what a connection lets the desk hear that asks this at a moment: its press, if the lock lets it, and nothing else
+abbrev pub Answers : Guard → ℕ → Asking → (old new : Station) → (v v_then : View) → Type 0
+Answers g now (asking.Press (Some p)) old new v v_then =
+    HearsUnless (verdict_on p.button g now p.said) p old new v v_then
+Answers g now _ old new v v_then = Stays old new v v_then
+
+-- its request is awaited
+abbrev pub is_asking : Stage → Bool
+is_asking stage.Asking = true
+is_asking _ = false
+
+-- It was answered what it asked: a request that came whole, and it asks nothing more.
+pub record ServesAsked (identity : PageIdentity) (g : Guard) (now : ℕ) (c c_then : Connection) (old new : Station)
+    (v v_then : View) : Type 0 where
+  pub asks : Asking
+  pub came : AsksIn identity c_then.input.items asks
+  pub first : is_asking c.stage ≡ true
+  pub over : is_asking c_then.stage ≡ false
+  pub answers : Answers g now asks old new v v_then
+
+-- a connection is served: it asked, or the desk heard nothing of it
+abbrev pub Serves : PageIdentity → Guard → ℕ → (c c_then : Connection) → (old new : Station) → (v v_then : View) → Type 0
+Serves identity g now c c_then old new v v_then =
+    ServesAsked identity g now c c_then old new v v_then ⊎ Stays old new v v_then

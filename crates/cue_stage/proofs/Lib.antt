@@ -14,3 +14,16 @@ pub mod BegunLemmas
 pub mod StandbyLemmas
 pub mod HeldLemmas
 pub mod TaskLemmas
+pub mod AwaitedLemmas
+pub mod AnsweredLemmas
+pub mod EndingLemmas
+pub mod PortLemmas
+pub mod KeepingLemmas
+pub mod OrderedLemmas
+pub mod TickLemmas
+pub mod CopyAnswerLemmas
+pub mod ReadAnswerLemmas
+pub mod TakenAnswerLemmas
+pub mod SinceLemmas
+pub mod GivingLemmas
+pub mod GoingLemmas

@@ -2,3 +2,5 @@ pub mod Tasks
 pub mod Stage
 pub mod Laws
 pub mod Consent
+pub mod Waiting
+pub mod Going

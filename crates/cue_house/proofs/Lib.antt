@@ -1,0 +1,12 @@
+mod GoLemmas
+mod ReadGoLemmas
+mod AskedLemmas
+mod DecidedLemmas
+mod VerbLemmas
+mod HandedLemmas
+mod PressedLemmas
+mod HouseLemmas
+mod ApartLemmas
+mod CopyLemmas
+mod PlaceLemmas
+mod ForItLemmas

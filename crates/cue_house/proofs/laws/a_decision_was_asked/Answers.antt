@@ -1,0 +1,5 @@
+use Rattle.cue_house.proofs.DecidedLemmas.{a_decision_was_asked}
+use Rattle.cue_house.proofs.laws.a_decision_was_asked.Goals as goal
+
+pub returns : goal.returns
+returns c = a_decision_was_asked

@@ -149,7 +149,7 @@ fn each_attempt(alloc: Global, view: &View, cue: Option<CueNo>) -> Result<String
 fn none_words(view: &View, intent: &Intent) -> &'static str {
     match intent {
         Intent::Go(None) | Intent::Cancel if view.chosen.is_some() => {
-            "the cue that was stood by last is not live any more"
+            "the cue that was stood by here last is not live any more"
         }
         _ => "this cue does not stand by",
     }

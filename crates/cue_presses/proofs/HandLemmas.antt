@@ -19,7 +19,7 @@ use Rattle.cue_presses.specs.declared.pressing.Wanted.TheVariants as wanted
 use Rattle.cue_presses.specs.declared.pressing.Why.{Why}
 use Rattle.cue_presses.specs.declared.pressing.Why.TheVariants as why
 use Rattle.cue_presses.specs.Hand.{Meant, PressedIsMeant, has_room, is_button_of, meant_by}
-use Rattle.cue_presses.specs.Meaning.{cancel_alone, cancel_of, chosen_of, go_alone, go_of, go_sole, is_live, is_meant}
+use Rattle.cue_presses.specs.Meaning.{cancel_alone, cancel_by, cancel_of, chosen_live, chosen_of, go_alone, go_of, go_sole, is_live, is_meant}
 use Rattle.cue_presses.specs.Meaning.{is_passed, joined, meaning, sole_of, standby_by, was_passed}
 use Rattle.cue_presses.specs.Settling.{is_over}
 use Rattle.cue_presses.specs.Taps.{is_second_tap}
@@ -85,11 +85,15 @@ alone_passes None false passed live = sole_passes passed (sole_of wanted.Prepari
 alone_passes (Some q) false passed live =
     go_passes (is_button_of (intent.Go None)) (Some q) (chosen_of wanted.Ready q live) why.NotThis (λ r d e. refl)
 
+cancels_by : (chosen : Option ℕ) (live : List LiveAttempt)
+    → passes (is_button_of intent.Cancel) (cancel_by chosen live) ≡ true
+cancels_by None live = cancel_passes None (sole_of wanted.Preparing live) why.Nobody
+cancels_by (Some q) live = cancel_passes (Some q) (chosen_of wanted.Preparing q live) why.NotThis
+
 cancels_pass : (chosen : Option ℕ) (waits : Bool) (live : List LiveAttempt)
     → passes (is_button_of intent.Cancel) (cancel_alone chosen waits live) ≡ true
 cancels_pass chosen true live = refl
-cancels_pass None false live = cancel_passes None (sole_of wanted.Preparing live) why.Nobody
-cancels_pass (Some q) false live = cancel_passes (Some q) (chosen_of wanted.Preparing q live) why.NotThis
+cancels_pass chosen false live = cancels_by (chosen_live chosen live) live
 
 standbys_pass : (n : Next) (live : List LiveAttempt) (named : Option (List ℕ))
     → passes (is_button_of (intent.Standby named)) (standby_by n live named) ≡ true

@@ -93,13 +93,24 @@ go_by (Some seq) passed live = go_of (Some seq) (chosen_of wanted.Ready seq live
 abbrev pub go_alone : Option ℕ → Bool → Option ℕ → List LiveAttempt → Result Press Why
 go_alone chosen is_awaited passed live = if is_awaited then Err why.Awaited else go_by chosen passed live
 
--- CANCEL: of the attempt that is chosen, and of no other; if none is chosen, of the only one that prepares
+-- the attempt with this number is live
+abbrev pub is_there : ℕ → List LiveAttempt → Bool
+is_there seq live = list_any (λ a. nat_eq a.seq seq) live
+
+-- the attempt that is chosen, while it is live
+abbrev pub chosen_live : Option ℕ → List LiveAttempt → Option ℕ
+chosen_live None live = None
+chosen_live (Some seq) live = if is_there seq live then Some seq else None
+
+-- CANCEL: of the attempt that is chosen, and of no other while it is live; else of the only one that prepares, so that a
+-- CANCEL is not lost since what was chosen has ended
 abbrev pub cancel_by : Option ℕ → List LiveAttempt → Result Press Why
 cancel_by None live = cancel_of None (sole_of wanted.Preparing live) why.Nobody
 cancel_by (Some seq) live = cancel_of (Some seq) (chosen_of wanted.Preparing seq live) why.NotThis
 
 abbrev pub cancel_alone : Option ℕ → Bool → List LiveAttempt → Result Press Why
-cancel_alone chosen is_awaited live = if is_awaited then Err why.Awaited else cancel_by chosen live
+cancel_alone chosen is_awaited live =
+    if is_awaited then Err why.Awaited else cancel_by (chosen_live chosen live) live
 
 -- ---- STANDBY
 

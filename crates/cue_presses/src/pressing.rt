@@ -198,22 +198,42 @@ fn go_alone(view: &View, passed: Option<u32>) -> Result<Press, Why>
     }
 }
 
-// CANCEL: of the chosen attempt, else of the only one that prepares.
+// Whether the attempt with this number is live.
+fn is_there(seq: u32, live: &[LiveAttempt]) -> bool
+    ensures { result ≡ rule.is_there seq live.now }
+{
+    live.iter().any(|attempt| attempt.seq == seq)
+}
+
+// The attempt that is chosen, while it is live.
+fn chosen_live(chosen: Option<u32>, live: &[LiveAttempt]) -> Option<u32>
+    ensures { result ≡ rule.chosen_live chosen live.now }
+{
+    match chosen {
+        Some(seq) => if is_there(seq, live) { Some(seq) } else { None },
+        None => None,
+    }
+}
+
+// CANCEL: of the chosen attempt while it is live, else of the only one that prepares.
+fn cancel_by(chosen: Option<u32>, live: &[LiveAttempt]) -> Result<Press, Why>
+    ensures { result ≡ rule.cancel_by chosen live.now }
+{
+    let wanted = Wanted::Preparing;
+    match chosen {
+        Some(seq) => cancel_of(chosen, chosen_of(&wanted, seq, live), Why::NotThis),
+        None => cancel_of(chosen, sole_of(&wanted, live), Why::Nobody),
+    }
+}
+
+// The same, once what was stood by last is shown.
 fn cancel_alone(view: &View) -> Result<Press, Why>
     ensures { result ≡ rule.cancel_alone view.now.chosen view.now.awaits view.now.live.items }
 {
-    let wanted = Wanted::Preparing;
     if view.awaits {
         return Err(Why::Awaited);
     }
-    match view.chosen {
-        Some(seq) => cancel_of(
-            view.chosen,
-            chosen_of(&wanted, seq, &view.live),
-            Why::NotThis,
-        ),
-        None => cancel_of(view.chosen, sole_of(&wanted, &view.live), Why::Nobody),
-    }
+    cancel_by(chosen_live(view.chosen, &view.live), &view.live)
 }
 
 // Whether something is live at the cue.

@@ -102,6 +102,11 @@ def over(page, evening):
     stood_by(page, evening, "1")
     evening.serve.hold()
     check("serve silent: dark within three seconds", page.waits_for(lambda: dark(page), 3.0))
+    page.key(" ")
+    words = "GO is not lit: serve does not answer"
+    check("the space bar says why it is dark", page.shows("words", words))
+    time.sleep(1)
+    check("and the line stays, in the words of now", words in page.text("words"))
     check("its ten seconds run out", page.shows("live", "its ten seconds are over", 12))
     check("and it is not called ready", "GO can be given" not in page.text("live"))
     evening.serve.go_on()

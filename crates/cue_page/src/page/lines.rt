@@ -16,6 +16,16 @@ function say(words, kind, millis, holds) {
   showWords();
 }
 
+// Two reasons are the same if they differ in numbers alone, as in how long something has lasted.
+const isSame = (why, other) => why.replace(/[0-9.]+/g, "") === other.replace(/[0-9.]+/g, "");
+
+// Why a button is dark that was pressed, in the words of now, as long as it is that reason.
+function sayDark(id) {
+  const why = whyDark(id), draw = () => [id.toUpperCase() + " is not lit: " + whyDark(id), "refused"];
+  note = { draw, until: now() + NOTED, said: saidNow(), holds: () => !keyOf(id) && isSame(whyDark(id), why) };
+  showWords();
+}
+
 // What became of the GO that was sent from here, if it was not refused.
 function goKind() {
   const kind = view && view.said && view.said.press === lastGo.press ? view.said.kind : "open";

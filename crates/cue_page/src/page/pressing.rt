@@ -78,9 +78,9 @@ async function send(press) {
 // A key or a great button: the lit one of the view that is drawn.
 function press(id) {
   if (id === "go" && isTap()) { sayTap(); return; }
-  const lit = keyOf(id), why = lit ? "" : whyDark(id);
+  const lit = keyOf(id);
   if (lit) send(lit.press);
-  else say(id.toUpperCase() + " is not lit: " + why, "refused", NOTED, () => !keyOf(id) && whyDark(id) === why);
+  else sayDark(id);
 }
 
 // A space that goes into a field gives no GO, and says so while a cue waits for one.

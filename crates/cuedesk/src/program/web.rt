@@ -20,6 +20,9 @@ use std::time::Clock;
 /// How long a round waits at most, in milliseconds.
 const PAUSE: u64 = 20;
 
+/// How long a round may last, in milliseconds, without a look at the world before who presses is heard.
+const HELD_UP: u64 = 250;
+
 /// How many bytes are drawn for the token.
 const TOKEN_BYTES: usize = 16;
 
@@ -30,6 +33,8 @@ struct Server<'a, R> {
     desk: Desk<'a, R>,
     pages: Pages<'a>,
     renewed: Option<Renewed<'a>>,
+    // When the last round began.
+    last: u64,
 }
 
 // The token of this run, or its name.
@@ -66,8 +71,21 @@ impl<R: Files<File = File> + Net + Clock + Eprint + AllocGlobal> Server<'_, R> {
         Ok(())
     }
 
+    // Looks at the world first, if this program was held up: what it knows is old, and a page would be told that it is
+    // of now.
+    fn wake(&mut self) -> io::Result<()> {
+        let now = self.desk.now()?;
+        let is_late = now.saturating_sub(self.last) > HELD_UP;
+        self.last = now;
+        if is_late {
+            self.desk.round()?;
+        }
+        Ok(())
+    }
+
     // One round: who presses is heard first.
     fn round(&mut self, connections: &mut Connections) -> io::Result<()> {
+        self.wake()?;
         let alloc = self.rt.alloc();
         let now = self.desk.now()?;
         let is_waited_for = connections.admit(alloc, self.desk.registry(), now);
@@ -193,6 +211,7 @@ fn open_server<'a, R: Files<File = File> + Net + Clock + Eprint + AllocGlobal>(
             desk,
             pages,
             renewed,
+            last: 0,
         }),
         Err(ending) => {
             drop(pages);

@@ -315,8 +315,13 @@ def stays_in_sight(page, evening, relay):
         releases(page, 20)
         check("it ends", ends(page, "3", "failed"))
         check("what has not answered stays in sight", page.shows("alarms", "was released: it may still move"))
-        told.moving = ()
+        told.devices, told.moving = {4: (None, False)}, ()
+        time.sleep(0.5)
+        check("a relay that has not heard it knows no better", "it may still move" in page.text("alarms"))
+        told.devices = {4: (1, False)}
         check("once it has answered nobody knows which it was", page.shows("alarms", "aborted or released"))
+        check("nor do the attempts that have ended say more",
+              "may still move" not in page.run("return document.getElementById('past').textContent"))
         check("it was seen", sees(page))
     evening.stop("devices")
 
@@ -332,6 +337,7 @@ def hears(page, evening, relay, pictures):
     check("and that one was never heard", page.shows("heard-22", "never heard"))
     goes_to(page, "5")
     page.click("standby")
+    write_status(relay, {4: (4, False), 20: (4, False), 22: (None, False)})
     check("beside what it has answered, too", page.waits_for(lambda: page.run(ROWS) > 0))
     before = sounded(page)
     write_status(relay, {1: (2, False), 3: (12, False), 20: (3, False), 22: (7, True)})

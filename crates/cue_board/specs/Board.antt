@@ -20,6 +20,7 @@ use Rattle.cue_view.specs.declared.view.Next.{Next}
 use Rattle.cue_view.specs.declared.view.Next.TheVariants as next
 use Rattle.cue_view.specs.declared.view.View.{View}
 use Rattle.cue_view.specs.Late.{relay_late, serve_late}
+use Rattle.cue_view.specs.Sight.{is_in_sight}
 use Rattle.cue_board.specs.Alarms.{alarm_words}
 use Rattle.cue_board.specs.Columns.{fit_of}
 use Rattle.cue_board.specs.Ends.{last_said}
@@ -59,14 +60,15 @@ stage_at at a progress.Ready = preparing_at progress.Ready a.left
 stage_at at a progress.Held = preparing_at progress.Held a.left
 stage_at at a progress.Preparing = preparing_at progress.Preparing a.left
 stage_at at a progress.Over = codes "its ten seconds are over"
+stage_at at a progress.Unseen = codes "was preparing when this was read"
 stage_at at a progress.Given = given_at at a.given
 stage_at at a (progress.GivenUp reason) = codes "given up: " ++ reason_words reason
 
 -- its cue, its number, and how far it has come
-unfoldable pub attempt_said : ℕ → LiveAttempt → List ℕ
-attempt_said at a =
+unfoldable pub attempt_said : View → LiveAttempt → List ℕ
+attempt_said v a =
     codes "LIVE   cue " ++ (a.cue ++ (codes ", attempt " ++ (decimal a.seq
-    ++ (codes ": " ++ stage_at at a (progress_of a)))))
+    ++ (codes ": " ++ stage_at v.at a (progress_of (is_in_sight v) a)))))
 
 -- whether the cue may go without the device
 abbrev pub kind_words : Bool → List ℕ
@@ -86,13 +88,13 @@ unfoldable pub device_said : DeviceAnswer → List ℕ
 device_said a = padded NAME_AT (device_answered a) ++ kind_words a.optional
 
 -- an attempt with all of its devices
-abbrev pub attempt_lines : ℕ → LiveAttempt → List (List ℕ)
-attempt_lines at a = attempt_said at a ∷ map device_said a.devices
+abbrev pub attempt_lines : View → LiveAttempt → List (List ℕ)
+attempt_lines v a = attempt_said v a ∷ map device_said a.devices
 
--- each live attempt
-abbrev pub live_said : ℕ → List LiveAttempt → List (List ℕ)
-live_said at [] = codes "LIVE   nothing is stood by" ∷ []
-live_said at (a ∷ more) = flat_map (attempt_lines at) (a ∷ more)
+-- each live attempt of a view
+abbrev pub live_said : View → List LiveAttempt → List (List ℕ)
+live_said v [] = codes "LIVE   nothing is stood by" ∷ []
+live_said v (a ∷ more) = flat_map (attempt_lines v) (a ∷ more)
 
 -- ---- the live attempts if there is little room
 
@@ -119,9 +121,9 @@ answer_lines answers kind =
     else (codes "         " ++ (answer_words kind ++ (codes ":" ++ numbers_of kind answers))) ∷ []
 
 -- an attempt with a line for each answer that devices of it have
-abbrev pub attempt_brief : ℕ → LiveAttempt → List (List ℕ)
-attempt_brief at a =
-    attempt_said at a ∷ (answer_lines a.devices answer.Waiting ++ (answer_lines a.devices answer.Failed
+abbrev pub attempt_brief : View → LiveAttempt → List (List ℕ)
+attempt_brief v a =
+    attempt_said v a ∷ (answer_lines a.devices answer.Waiting ++ (answer_lines a.devices answer.Failed
     ++ (answer_lines a.devices answer.Ready ++ (answer_lines a.devices answer.Done
     ++ (answer_lines a.devices answer.LetGo ++ answer_lines a.devices answer.Excused)))))
 
@@ -259,14 +261,14 @@ ends_said names v = last_said names v.last ++ (read_said v ∷ [])
 abbrev pub board_with : ℕ → Names → View → List (List ℕ)
 board_with shown names v =
     alarm_said names.port v
-    ++ (stack_said shown names.together.now v ++ (live_said v.at v.live.items ++ ends_said names v))
+    ++ (stack_said shown names.together.now v ++ (live_said v v.live.items ++ ends_said names v))
 
 -- the same without cues, and with a line for each answer in place of one for each device
 abbrev pub board_brief : Names → View → List (List ℕ)
 board_brief names v =
     alarm_said names.port v
     ++ (stack_said 0 names.together.now v
-    ++ (flat_map (attempt_brief v.at) v.live.items ++ ends_said names v))
+    ++ (flat_map (attempt_brief v) v.live.items ++ ends_said names v))
 
 -- with so many cues; if none has room, the devices share lines
 abbrev pub board_said : ℕ → Names → View → List (List ℕ)

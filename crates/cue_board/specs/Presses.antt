@@ -29,7 +29,7 @@ plain_words became.Over = codes "it was made, and the cue stands by no more"
 plain_words became.Carried = codes "no reply came; the store shows that it was carried out"
 plain_words became.Lost = codes "no reply came; the store shows that it was not carried out"
 plain_words became.Unknown = codes "no reply came, and the store does not show it: look at the devices"
-plain_words _ = codes "open: nobody has replied yet; it may still be carried out"
+plain_words _ = codes "open: nobody has replied yet; the store will show whether it is carried out"
 
 -- what became of it; a press that nobody replied to is open
 abbrev pub became_words : ℕ → Became → List ℕ

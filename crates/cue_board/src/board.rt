@@ -170,7 +170,7 @@ fn lines_with(
     let mut lines = Vec::new(alloc);
     push_alarm(alloc, &mut lines, view, names.port)?;
     push_stack(alloc, &mut lines, view, names, shown)?;
-    push_live(alloc, &mut lines, &view.live, names, view.at)?;
+    push_live(alloc, &mut lines, &view.live, names, view)?;
     push_ends(alloc, &mut lines, view, names)?;
     Ok(lines)
 }
@@ -182,7 +182,7 @@ fn brief_lines(alloc: Global, view: &View, names: &Names<'_>) -> Result<Vec<Boar
     let mut lines = Vec::new(alloc);
     push_alarm(alloc, &mut lines, view, names.port)?;
     push_stack(alloc, &mut lines, view, names, 0)?;
-    push_live_brief(alloc, &mut lines, &view.live, view.at)?;
+    push_live_brief(alloc, &mut lines, &view.live, view)?;
     push_ends(alloc, &mut lines, view, names)?;
     Ok(lines)
 }

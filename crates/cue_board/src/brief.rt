@@ -9,7 +9,7 @@ use crate::line::BoardLine;
 use crate::live::attempt_line;
 use cue_exchange::{Answer, DeviceAnswer};
 use cue_show::DeviceNo;
-use cue_view::view::LiveAttempt;
+use cue_view::view::{LiveAttempt, View};
 use cue_words::answer_words;
 use std::alloc::{AllocError, Global};
 
@@ -78,12 +78,12 @@ fn push_attempt(
     alloc: Global,
     lines: &mut Vec<BoardLine>,
     attempt: &LiveAttempt,
-    at: u64,
+    view: &View,
 ) -> Result<(), AllocError>
     ensures { OnOk result
-        (map said_of lines.new.items ≡ map said_of lines.old.items ++ board.attempt_brief at attempt.now) }
+        (map said_of lines.new.items ≡ map said_of lines.old.items ++ board.attempt_brief view.now attempt.now) }
 {
-    lines.push(attempt_line(alloc, attempt, at)?)?;
+    lines.push(attempt_line(alloc, attempt, view)?)?;
     let answers = attempt.devices.as_slice();
     push_answer(alloc, lines, answers, Answer::Waiting)?;
     push_answer(alloc, lines, answers, Answer::Failed)?;
@@ -93,18 +93,18 @@ fn push_attempt(
     push_answer(alloc, lines, answers, Answer::Excused)
 }
 
-/// Puts each live attempt after the lines.
+/// Puts each live attempt of the view after the lines.
 pub(crate) fn push_live_brief(
     alloc: Global,
     lines: &mut Vec<BoardLine>,
     live: &[LiveAttempt],
-    at: u64,
+    view: &View,
 ) -> Result<(), AllocError>
-    ensures { OnOk result
-        (map said_of lines.new.items ≡ map said_of lines.old.items ++ flat_map (board.attempt_brief at) live.now) }
+    ensures { OnOk result (map said_of lines.new.items
+        ≡ map said_of lines.old.items ++ flat_map (board.attempt_brief view.now) live.now) }
 {
     for attempt in live {
-        push_attempt(alloc, lines, attempt, at)?;
+        push_attempt(alloc, lines, attempt, view)?;
     }
     Ok(())
 }

@@ -4,6 +4,7 @@ ghost use Rattle.std.specs.List.{flat_map};
 ghost use Rattle.cue_board.specs.Board as board;
 ghost use Rattle.cue_board.specs.Board.{said_of};
 ghost use Rattle.cue_board.specs.Progress.{progress_of};
+ghost use Rattle.cue_view.specs.Sight.{is_in_sight};
 
 use crate::line::{BoardLine, push_spaces};
 use crate::names::Names;
@@ -11,7 +12,7 @@ use crate::progress::{Progress, progress_of};
 use crate::times::seconds;
 use cue_exchange::DeviceAnswer;
 use cue_show_file::cue_text;
-use cue_view::view::LiveAttempt;
+use cue_view::view::{LiveAttempt, View};
 use cue_words::{answer_words, reason_words};
 use std::alloc::{AllocError, Global};
 
@@ -54,11 +55,11 @@ fn given_at(alloc: Global, at: u64, given: Option<u64>) -> Result<String, AllocE
 }
 
 // How far an attempt has come at this moment.
-fn stage_at(alloc: Global, attempt: &LiveAttempt, at: u64) -> Result<String, AllocError>
+fn stage_at(alloc: Global, attempt: &LiveAttempt, view: &View) -> Result<String, AllocError>
     ensures { IfOk result (λ text. string_bytes text
-        ≡ board.stage_at at attempt.now (progress_of attempt.now)) }
+        ≡ board.stage_at view.now.at attempt.now (progress_of (is_in_sight view.now) attempt.now)) }
 {
-    let progress = progress_of(attempt);
+    let progress = progress_of(attempt, view.is_in_sight());
     match progress {
         Progress::Ready | Progress::Held | Progress::Preparing => preparing_at(
             alloc,
@@ -66,7 +67,8 @@ fn stage_at(alloc: Global, attempt: &LiveAttempt, at: u64) -> Result<String, All
             attempt.left,
         ),
         Progress::Over => String::from_str(alloc, "its ten seconds are over"),
-        Progress::Given => given_at(alloc, at, attempt.given),
+        Progress::Unseen => String::from_str(alloc, "was preparing when this was read"),
+        Progress::Given => given_at(alloc, view.at, attempt.given),
         Progress::GivenUp(reason) => {
             let words = reason_words(reason);
             Ok(format!(in alloc; "given up: {words}")?)
@@ -79,13 +81,13 @@ fn stage_at(alloc: Global, attempt: &LiveAttempt, at: u64) -> Result<String, All
 pub(crate) fn attempt_line(
     alloc: Global,
     attempt: &LiveAttempt,
-    at: u64,
+    view: &View,
 ) -> Result<BoardLine, AllocError>
-    ensures { IfOk result (λ line. said_of line ≡ board.attempt_said at attempt.now) }
+    ensures { IfOk result (λ line. said_of line ≡ board.attempt_said view.now attempt.now) }
 {
     let cue = cue_text(&attempt.cue);
     let seq = attempt.seq;
-    let stage = stage_at(alloc, attempt, at)?;
+    let stage = stage_at(alloc, attempt, view)?;
     let stage = stage.as_str();
     let said = format!(in alloc; "LIVE   cue {cue}, attempt {seq}: {stage}")?;
     Ok(BoardLine::bare(alloc, said))
@@ -153,12 +155,12 @@ fn push_attempt(
     lines: &mut Vec<BoardLine>,
     attempt: &LiveAttempt,
     names: &Names<'_>,
-    at: u64,
+    view: &View,
 ) -> Result<(), AllocError>
     ensures { OnOk result
-        (map said_of lines.new.items ≡ map said_of lines.old.items ++ board.attempt_lines at attempt.now) }
+        (map said_of lines.new.items ≡ map said_of lines.old.items ++ board.attempt_lines view.now attempt.now) }
 {
-    lines.push(attempt_line(alloc, attempt, at)?)?;
+    lines.push(attempt_line(alloc, attempt, view)?)?;
     push_devices(alloc, lines, attempt.devices.as_slice(), names)
 }
 
@@ -168,27 +170,27 @@ fn push_attempts(
     lines: &mut Vec<BoardLine>,
     live: &[LiveAttempt],
     names: &Names<'_>,
-    at: u64,
+    view: &View,
 ) -> Result<(), AllocError>
-    ensures { OnOk result
-        (map said_of lines.new.items ≡ map said_of lines.old.items ++ flat_map (board.attempt_lines at) live.now) }
+    ensures { OnOk result (map said_of lines.new.items
+        ≡ map said_of lines.old.items ++ flat_map (board.attempt_lines view.now) live.now) }
 {
     for attempt in live {
-        push_attempt(alloc, lines, attempt, names, at)?;
+        push_attempt(alloc, lines, attempt, names, view)?;
     }
     Ok(())
 }
 
-/// Puts each live attempt with its devices after the lines.
+/// Puts each live attempt of the view with its devices after the lines.
 pub(crate) fn push_live(
     alloc: Global,
     lines: &mut Vec<BoardLine>,
     live: &[LiveAttempt],
     names: &Names<'_>,
-    at: u64,
+    view: &View,
 ) -> Result<(), AllocError>
     ensures { OnOk result
-        (map said_of lines.new.items ≡ map said_of lines.old.items ++ board.live_said at live.now) }
+        (map said_of lines.new.items ≡ map said_of lines.old.items ++ board.live_said view.now live.now) }
 {
     match live {
         [] => {
@@ -196,6 +198,6 @@ pub(crate) fn push_live(
             lines.push(BoardLine::bare(alloc, said))?;
             Ok(())
         }
-        _ => push_attempts(alloc, lines, live, names, at),
+        _ => push_attempts(alloc, lines, live, names, view),
     }
 }

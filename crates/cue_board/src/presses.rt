@@ -42,7 +42,7 @@ fn plain_words(became: Became) -> &'static str
         Became::Lost => "no reply came; the store shows that it was not carried out",
         Became::Unknown => "no reply came, and the store does not show it: look at the devices",
         Became::Open | Became::Nobody | Became::Refused(_) | Became::Partly(_) => {
-            "open: nobody has replied yet; it may still be carried out"
+            "open: nobody has replied yet; the store will show whether it is carried out"
         }
     }
 }

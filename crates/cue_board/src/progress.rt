@@ -17,6 +17,8 @@ pub enum Progress {
     Preparing,
     /// Its ten seconds are over.
     Over,
+    /// It prepared when the store was read last. The store is not in sight: nobody knows how far it has come since.
+    Unseen,
     /// GO was given.
     Given,
     /// It is given up.
@@ -32,10 +34,12 @@ fn some_waits(attempt: &LiveAttempt) -> bool
 }
 
 // How far an attempt has come that prepares.
-fn preparing_as(attempt: &LiveAttempt) -> Progress
-    ensures { result ≡ spec.preparing_as attempt.now }
+fn preparing_as(attempt: &LiveAttempt, in_sight: bool) -> Progress
+    ensures { result ≡ spec.preparing_as in_sight attempt.now }
 {
-    if attempt.ready {
+    if !in_sight {
+        Progress::Unseen
+    } else if attempt.ready {
         Progress::Ready
     } else if attempt.left == 0 {
         Progress::Over
@@ -46,12 +50,12 @@ fn preparing_as(attempt: &LiveAttempt) -> Progress
     }
 }
 
-/// How far a live attempt has come: what page and board say of it.
-pub fn progress_of(attempt: &LiveAttempt) -> Progress
-    ensures { result ≡ spec.progress_of attempt.now }
+/// How far a live attempt has come: what page and board say of it. `in_sight`: whether the store is in sight.
+pub fn progress_of(attempt: &LiveAttempt, in_sight: bool) -> Progress
+    ensures { result ≡ spec.progress_of in_sight attempt.now }
 {
     match attempt.stage {
-        Stage::Preparing => preparing_as(attempt),
+        Stage::Preparing => preparing_as(attempt, in_sight),
         Stage::Decided => Progress::Given,
         Stage::Cancelling(reason) => Progress::GivenUp(reason),
     }
@@ -66,6 +70,7 @@ pub fn progress_word(progress: Progress) -> &'static str
         Progress::Held => "held",
         Progress::Preparing => "preparing",
         Progress::Over => "over",
+        Progress::Unseen => "unseen",
         Progress::Given => "given",
         Progress::GivenUp(_) => "given up",
     }

@@ -1,8 +1,11 @@
 -- What records tell: one more batch, and all of them.
-use Rattle.std.proofs.Common.{◌≡◌, ◌++◌, ◌∙◌, ℕ, List, [], ◌∷◌, ap, sym, refl, subst}
+use Rattle.std.proofs.Common.{◌≡◌, ◌++◌, ◌∙◌, ℕ, List, [], ◌∷◌, Option, ap, sym, refl, subst}
 use Rattle.std.proofs.lemmas.List.{append_assoc, append-nil}
 use Rattle.cue_core.specs.declared.event.Event.{Event}
-use Rattle.cue_copies.specs.Telling.{AreTold, TellsOne}
+use Rattle.cue_log.specs.Area.{Area}
+use Rattle.cue_snap.specs.Pair.{PairReads}
+use Rattle.cue_copies.specs.Earlier.{IsEarlier}
+use Rattle.cue_copies.specs.Telling.{AreBothTold, AreTold, Tells, TellsOne, or_none}
 
 -- one more record of the rest is read
 pub one_more : (tail rest next : List (List ℕ)) (payload : List ℕ) (before after : List Event)
@@ -31,3 +34,10 @@ pub all_told : (tail rest : List (List ℕ)) (events : List Event)
 all_told tail rest events so_far none =
     let at : AreTold rest [] = subst (λ (l : List (List ℕ)). AreTold l []) (sym none) refl in
     subst (λ (l : List Event). AreTold tail l) (append-nil events) (so_far [] at)
+
+-- an area that counts, the one before it, and the events of both
+pub tells_both : (area : Area) (x y : List ℕ) → PairReads area x y → (earlier : Option (List (List ℕ)))
+    → IsEarlier area.generation x y earlier → (events : List Event)
+    → AreBothTold (or_none earlier) area.payloads events → Tells x y events
+tells_both area x y reads earlier is_earlier events told =
+    record { area = area; reads = reads; earlier = earlier; is_earlier = is_earlier; told = told }

@@ -14,6 +14,7 @@ use Rattle.cue_keeper.specs.Stands.{Stands}
 use Rattle.cue_keeper.specs.declared.fault.StoreFault.{StoreFault}
 use Rattle.cue_keeper.specs.declared.fault.StoreFault.TheVariants as store
 use Rattle.cue_copies.specs.Copies.{CannotBeOpened, copy_of}
+use Rattle.cue_copies.specs.Earlier.{IsEarlier}
 use Rattle.cue_copies.specs.declared.copying.Copies.{Copies}
 use Rattle.cue_copies.specs.declared.reading.Found.{Found}
 use Rattle.cue_copies.specs.declared.reading.Found.TheVariants.{Whole, Same, Refused, Changing}
@@ -50,11 +51,27 @@ abbrev pub AreTold : List (List ℕ) → List Event → Type 0
 AreTold [] events = events ≡ []
 AreTold (payload ∷ payloads) events = AreToldBy payload (AreTold payloads) events
 
--- The two read as an area whose records tell of these events.
+-- these payloads; none if there are none
+abbrev pub or_none : Option (List (List ℕ)) → List (List ℕ)
+or_none None = []
+or_none (Some payloads) = payloads
+
+-- The earlier payloads tell of the first of these events, and the later ones of the others.
+pub record AreBothTold (earlier later : List (List ℕ)) (events : List Event) : Type 0 where
+  pub before : List Event
+  pub after : List Event
+  pub first : AreTold earlier before
+  pub last : AreTold later after
+  pub is : events ≡ before ++ after
+
+-- The two read as an area. Its records tell of the last of these events, and those of the area before it of the events
+-- before them, if one of the two still reads as that.
 pub record Tells (x y : List ℕ) (events : List Event) : Type 0 where
   pub area : Area
   pub reads : PairReads area x y
-  pub told : AreTold area.payloads events
+  pub earlier : Option (List (List ℕ))
+  pub is_earlier : IsEarlier area.generation x y earlier
+  pub told : AreBothTold (or_none earlier) area.payloads events
 
 -- the copies are of these bytes
 abbrev pub AreOf : Option Copies → List ℕ → List ℕ → Type 0

@@ -5,13 +5,15 @@
 //! before they are copied and again after it; if a head has changed, the copies may be of two moments, and both files
 //! are read again. What copies stand for is known over disks in memory: a state, or why they are not opened
 //! (`CannotBeOpened`) or not recovered. What speaks of contents is proved if both disks are honest, and nobody else
-//! writes them meanwhile. Who looks again and again calls `read_again`: it gives the events of the records that follow
-//! the snapshot, too (`specs/Telling.antt`), and says if the files hold what the last copies have.
+//! writes them meanwhile. Who looks again and again calls `read_again`: it gives the events that the records tell, too
+//! (`specs/Telling.antt`), also those of the area before the one that counts: so a turn-over forgets nothing that has
+//! just happened. It says if the files hold what the last copies have.
 //!
 //! Only tested: what a look gives beside a `serve`. Neither: that a copy is what its file held.
 #![tactic(auto)]
 
 mod copying;
+mod earlier;
 mod looking;
 mod reading;
 mod telling;

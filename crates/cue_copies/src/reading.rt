@@ -14,8 +14,7 @@ use std::alloc::Global;
 /// What a reading of both files gave.
 #[derive(Drop)]
 pub enum Found {
-    /// The copies, the store that they stand for, and the events of the records that follow its snapshot, the oldest
-    /// first.
+    /// The copies, the store that they stand for, and the events that their records tell, the oldest first.
     Whole(Copies, Keeper<MemDisk>, Vec<Event>),
     /// The files hold what the last copies have.
     Same,

@@ -3,7 +3,9 @@ use Rattle.std.specs.Prelude.{ℕ, List, [], ◌-◌, map, codes, Option, None, 
 use Rattle.serde_json.specs.Data.{Data, null, boolean, number, unsigned, string, array, object, member, no_members}
 use Rattle.serde_json.specs.View.{items_of}
 use Rattle.cue_exchange.specs.declared.attempt.DeviceAnswer.{DeviceAnswer}
+use Rattle.cue_view.specs.Sight.{is_in_sight}
 use Rattle.cue_view.specs.declared.view.LiveAttempt.{LiveAttempt}
+use Rattle.cue_view.specs.declared.view.View.{View}
 use Rattle.cue_words.specs.Answered.{answer_words, reason_words}
 use Rattle.cue_board.specs.Progress.{progress_of, word_of}
 use Rattle.cue_board.specs.declared.progress.Progress.{Progress}
@@ -27,13 +29,13 @@ given_data at None = null
 given_data at (Some given) = number (unsigned (at - given))
 
 -- an attempt: its number and cue, how far it has come, what is left of its ten seconds, and each of its devices
-abbrev pub attempt_data : ℕ → LiveAttempt → Data
-attempt_data at a =
+abbrev pub attempt_data : View → LiveAttempt → Data
+attempt_data v a =
     object (member (codes "attempt") (number (unsigned a.seq))
     (member (codes "cue") (string a.cue)
     (member (codes "devices") (array (items_of (map device_data a.devices)))
-    (member (codes "given") (given_data at a.given)
+    (member (codes "given") (given_data v.at a.given)
     (member (codes "left") (number (unsigned a.left))
     (member (codes "ready") (boolean a.ready)
-    (member (codes "reason") (string (why (progress_of a)))
-    (member (codes "stage") (string (word_of (progress_of a))) no_members))))))))
+    (member (codes "reason") (string (why (progress_of (is_in_sight v) a)))
+    (member (codes "stage") (string (word_of (progress_of (is_in_sight v) a))) no_members))))))))

@@ -57,7 +57,7 @@ view_data port groups v =
     (member (codes "last") (told_or_null v.last)
     (member (codes "late") (late_data v)
     (member (codes "lit") (array (items_of (map button_data (filter is_other v.lit.items))))
-    (member (codes "live") (array (items_of (map (attempt_data v.at) v.live.items)))
+    (member (codes "live") (array (items_of (map (attempt_data v) v.live.items)))
     (member (codes "moves") (boolean (list_any is_move v.lit.items))
     (member (codes "network") (array (items_of (map contact_data v.network.items)))
     (member (codes "next") (next_data groups v.next)

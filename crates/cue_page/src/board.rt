@@ -202,7 +202,7 @@ fn parts_of(alloc: Global, shown: &View, port: u16, groups: &[Group]) -> Result<
         last: told_or_null(alloc, shown.last.as_ref())?,
         late: late_value(alloc, shown)?,
         lit: others_value(alloc, &shown.lit)?,
-        live: live_value(alloc, &shown.live, at)?,
+        live: live_value(alloc, &shown.live, shown)?,
         moves: has_moves(&shown.lit),
         network: network_value(alloc, &shown.network)?,
         next: next_value(alloc, shown.next, groups)?,

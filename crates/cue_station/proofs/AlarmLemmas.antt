@@ -6,15 +6,17 @@ use Rattle.std.specs.Option.{option_to_list}
 use Rattle.std.proofs.lemmas.List.Folds.{list_any-append}
 use Rattle.cue_view.specs.declared.view.Trouble.{Trouble}
 use Rattle.cue_station.specs.declared.alarms.Facts.{Facts}
-use Rattle.cue_station.specs.declared.limits.TheConstants.{COPY_MS, OTHER_MS, SHOWN_MS, STATUS_MS}
+use Rattle.cue_station.specs.declared.limits.TheConstants.{OTHER_MS, SHOWN_MS, STATUS_MS}
 use Rattle.cue_view.specs.declared.view.Alarm.{Alarm}
 use Rattle.cue_view.specs.declared.view.Alarm.TheVariants as alarm
-use Rattle.cue_station.specs.Alarms.{doubt, either_by, is_asked_since, is_within, not_shown, not_shown_by, old_by}
+use Rattle.cue_view.specs.Sight.{is_age}
+use Rattle.cue_station.specs.Alarms.{doubt, either_by, is_asked_since, is_in_sight, is_within}
+use Rattle.cue_station.specs.Alarms.{not_shown, not_shown_by, old_by}
 use Rattle.cue_station.specs.Alarms.{old_store, other_by, other_store, relay_stopped}
 use Rattle.cue_station.specs.Alarms.{silence}
 use Rattle.cue_station.specs.Alarms.{silence_by, silent_in, stopped_by}
 use Rattle.cue_station.specs.Network.{is_stopped}
-use Rattle.cue_station.specs.Warning.{AgeIsSaid, SilenceIsSaid, is_age, is_silence}
+use Rattle.cue_station.specs.Warning.{AgeIsSaid, SilenceIsSaid, is_silence}
 
 -- ---- a test of each alarm
 
@@ -114,7 +116,7 @@ silence_said f back failures network =
     (map alarm.DeviceSilent (silent_in network)) (not (is_within STATUS_MS f.at f.asked))
     (silence_of (is_within STATUS_MS f.at f.asked) f.nobody f.asked) (none_doubt is_silence (λ s. refl) (λ s. refl) f)
     (none_stopped is_silence (λ s. refl) f.stamped f.at)
-    (no_silence (is_within COPY_MS f.at f.read) f.trouble f.read)
+    (no_silence (is_in_sight f) f.trouble f.read)
     (any_of_none is_silence alarm.ClockPutBack (λ x. refl) back)
     (any_of_none is_silence alarm.Failed (λ x. refl) failures)
     (any_of_none is_silence alarm.DeviceSilent (λ x. refl) (silent_in network))
@@ -137,9 +139,9 @@ pub age_said : AgeIsSaid
 age_said f back failures network =
     fourth_only is_age (option_to_list (silence f)) (option_to_list (doubt f)) (option_to_list (relay_stopped f))
     (option_to_list (old_store f)) (map alarm.ClockPutBack back) (map alarm.Failed failures)
-    (map alarm.DeviceSilent (silent_in network)) (not (is_within COPY_MS f.at f.read))
+    (map alarm.DeviceSilent (silent_in network)) (not (is_in_sight f))
     (no_age (is_within STATUS_MS f.at f.asked) f.nobody f.asked) (none_doubt is_age (λ s. refl) (λ s. refl) f)
-    (none_stopped is_age (λ s. refl) f.stamped f.at) (age_of (is_within COPY_MS f.at f.read) f.trouble f.read)
+    (none_stopped is_age (λ s. refl) f.stamped f.at) (age_of (is_in_sight f) f.trouble f.read)
     (any_of_none is_age alarm.ClockPutBack (λ x. refl) back)
     (any_of_none is_age alarm.Failed (λ x. refl) failures)
     (any_of_none is_age alarm.DeviceSilent (λ x. refl) (silent_in network))

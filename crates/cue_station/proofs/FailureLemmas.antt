@@ -20,11 +20,11 @@ use Rattle.cue_view.specs.declared.view.Trouble.{Trouble}
 use Rattle.cue_station.specs.declared.alarms.Facts.{Facts}
 use Rattle.cue_station.specs.declared.heard.Copied.{Copied}
 use Rattle.cue_station.specs.declared.lighting.Footing.{Footing}
-use Rattle.cue_station.specs.declared.limits.TheConstants.{COPY_MS, STATUS_MS}
+use Rattle.cue_station.specs.declared.limits.TheConstants.{STATUS_MS}
 use Rattle.cue_station.specs.declared.memory.Reading.{Reading}
 use Rattle.cue_station.specs.declared.memory.Seen.{Seen}
 use Rattle.cue_station.specs.Turns.{Turn}
-use Rattle.cue_station.specs.Alarms.{alarms_by, is_within, old_by}
+use Rattle.cue_station.specs.Alarms.{alarms_by, awaited_by, is_in_sight, is_within, old_by}
 use Rattle.cue_station.specs.Alarms.{doubt, old_store, put_back_in, relay_stopped, silence, silence_by, silent_in}
 use Rattle.cue_station.specs.Drawing.{alarms_of, facts_of, failures_shown, live_by}
 use Rattle.cue_station.specs.Following.{next_in}
@@ -145,7 +145,7 @@ none_failed q f back failures network h =
     (no_silence q (is_within STATUS_MS f.at f.asked) f.nobody f.asked)
     (none_doubt (is_failure_of q) (λ s. refl) (λ s. refl) f)
     (none_stopped (is_failure_of q) (λ s. refl) f.stamped f.at)
-    (no_age q (is_within COPY_MS f.at f.read) f.trouble f.read)
+    (no_age q (is_in_sight f) f.trouble f.read)
     (any_of_none (is_failure_of q) alarm.ClockPutBack (λ x. refl) back)
     (ap (λ qs. list_any (is_failure_of q) (map alarm.Failed qs)) h)
     (any_of_none (is_failure_of q) alarm.DeviceSilent (λ x. refl) (silent_in network))
@@ -154,7 +154,7 @@ unread-none : (turns : List Turn) (now wall q : ℕ) → reading_of turns ≡ No
     → list_any (is_failure_of q) (alarms_of turns now wall) ≡ false
 unread-none turns now wall q h =
     none_failed q (facts_of turns now) (put_back_in (λ p. seen_since p turns) now wall (live_by (reading_of turns)))
-    (numbers_of (failures_shown turns)) (network_by (relayed_of turns) now)
+    (numbers_of (failures_shown turns)) (awaited_by (reading_of turns) (network_by (relayed_of turns) now))
     (ap (λ o. numbers_of (shown_failures o (failed_of turns))) h)
 
 -- ---- both

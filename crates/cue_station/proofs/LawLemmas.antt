@@ -29,7 +29,7 @@ use Rattle.cue_view.specs.declared.view.Told.{Told}
 use Rattle.cue_view.specs.declared.view.Unsent.{Unsent}
 use Rattle.cue_view.specs.declared.view.View.{View}
 use Rattle.cue_station.specs.Turns.{Turn}
-use Rattle.cue_station.specs.Alarms.{alarms_by, asked_at, differs_since}
+use Rattle.cue_station.specs.Alarms.{alarms_by, asked_at, awaited_by, differs_since}
 use Rattle.cue_station.specs.Alarms.{is_over_by, is_put_back, nobody_of, put_back_in}
 use Rattle.cue_station.specs.Alarms.{read_at, stands_by, trouble_of}
 use Rattle.cue_station.specs.Asking.{is_press_sent, is_tap, newest_of, presses_of, said_by, unshown_by}
@@ -133,14 +133,16 @@ alarms-kept : (turns : List Turn) (n : Notes) (r : Option Reading) (relay : Opti
     (failures : List Told) (views : List Shown) → IsKept turns n r relay seen failures views → (now wall : ℕ)
     → alarms_in n r relay seen failures (footing_by n r now wall) ≡ alarms_of turns now wall
 alarms-kept turns n r relay seen failures views k now wall =
-    ap₂ (λ f q. alarms_by f q (numbers_of (shown_failures r failures)) (network_by relay now))
+    ap₂ (λ f q. alarms_by f q (numbers_of (shown_failures r failures))
+    (awaited_by r (network_by relay now)))
     (facts-kept turns n r relay seen failures views k now)
     (ap (map (λ a. a.seq)) (same_put_back (since_in seen) (λ q. seen_since q turns) k.since now wall (live_by r)))
     ∙ ap₂ (λ o x. alarms_by (facts_of turns now) (put_back_in (λ q. seen_since q turns) now wall (live_by o))
-    (numbers_of (shown_failures o failures)) (network_by x now)) k.reading k.relay
+    (numbers_of (shown_failures o failures)) (awaited_by o (network_by x now))) k.reading k.relay
     ∙ ap (λ l. alarms_by (facts_of turns now)
     (put_back_in (λ q. seen_since q turns) now wall (live_by (reading_of turns)))
-    (numbers_of (shown_failures (reading_of turns) l)) (network_by (relayed_of turns) now)) k.failed
+    (numbers_of (shown_failures (reading_of turns) l))
+    (awaited_by (reading_of turns) (network_by (relayed_of turns) now))) k.failed
 
 -- ---- what is sent
 

@@ -5,11 +5,11 @@ use Rattle.std.specs.Prelude.{All, IfSome}
 use Rattle.std.specs.Option.{option_to_list}
 use Rattle.std.proofs.lemmas.List.Elements.{All-cons, All-nil, All-weaker}
 use Rattle.cue_view.specs.declared.view.Trouble.{Trouble}
-use Rattle.cue_station.specs.declared.limits.TheConstants.{COPY_MS, OTHER_MS, SHOWN_MS, STATUS_MS}
+use Rattle.cue_station.specs.declared.limits.TheConstants.{OTHER_MS, SHOWN_MS, STATUS_MS}
 use Rattle.cue_view.specs.declared.view.Alarm.{Alarm}
 use Rattle.cue_view.specs.declared.view.Alarm.TheVariants as alarm
-use Rattle.cue_station.specs.Alarms.{either_by, is_asked_since, is_within, not_shown, not_shown_by, old_by, other_by}
-use Rattle.cue_station.specs.Alarms.{other_store, silence_by, silent_in, stopped_by}
+use Rattle.cue_station.specs.Alarms.{either_by, is_asked_since, is_in_sight, is_within, not_shown, not_shown_by}
+use Rattle.cue_station.specs.Alarms.{old_by, other_by, other_store, silence_by, silent_in, stopped_by}
 use Rattle.cue_station.specs.Network.{is_stopped}
 use Rattle.cue_station.specs.Warning.{IsLoudestFirst, LoudestFirst, rank_of}
 
@@ -101,7 +101,7 @@ in_order f back failures network =
     (rank_other f.differs f.asked f.at)
     (rank_not_shown f.unshown f.read))
     (above_option 3 4 _ _ (lit≤ tt) (rank_stopped f.stamped f.at)
-    (above_option 4 6 _ _ (lit≤ tt) (rank_old (is_within COPY_MS f.at f.read) f.trouble f.read)
+    (above_option 4 6 _ _ (lit≤ tt) (rank_old (is_in_sight f) f.trouble f.read)
     (above_map 6 alarm.ClockPutBack (λ x. refl) back _
     (above_more 6 7 _ (lit≤ tt)
     (above_map 7 alarm.Failed (λ x. refl) failures _

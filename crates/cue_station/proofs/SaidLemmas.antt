@@ -15,7 +15,7 @@ use Rattle.cue_station.specs.declared.limits.TheConstants.{KEPT_FAILURES}
 use Rattle.cue_station.specs.declared.memory.Reading.{Reading}
 use Rattle.cue_station.specs.Turns.{Turn}
 use Rattle.cue_station.specs.Alarms.{acknowledged_of, alarms_by, doubt, is_acknowledged, old_store, put_back_in}
-use Rattle.cue_station.specs.Alarms.{relay_stopped, silence, silent_in}
+use Rattle.cue_station.specs.Alarms.{awaited_by, relay_stopped, silence, silent_in}
 use Rattle.cue_station.specs.Drawing.{alarms_of, facts_of, failures_shown, live_by}
 use Rattle.cue_station.specs.Faults.{failing_in, is_failing}
 use Rattle.cue_station.specs.Keeping.{failed_after, failed_of, has_number, is_fresh, numbers_of, shown_failures, stays}
@@ -115,7 +115,7 @@ pub shown_said : (turns : List Turn) (now wall q : ℕ) → has_number q (failur
     → list_any (is_failure_of q) (alarms_of turns now wall) ≡ true
 shown_said turns now wall q h =
     failure_said (facts_of turns now) (put_back_in (λ n. seen_since n turns) now wall (live_by (reading_of turns)))
-    (numbers_of (failures_shown turns)) (network_by (relayed_of turns) now) q
+    (numbers_of (failures_shown turns)) (awaited_by (reading_of turns) (network_by (relayed_of turns) now)) q
     (numbered q (failures_shown turns) ∙ h)
 
 pub failing_said : FailingIsSaid

@@ -6,7 +6,7 @@ use Rattle.std.specs.List.{list_any}
 use Rattle.std.specs.Option.{option_eq, option_map, option_to_list}
 use Rattle.std.specs.Ordering.{int_eq}
 use Rattle.cue_show.specs.Number.{same_text}
-use Rattle.cue_exchange.specs.Answers.{is_preparing}
+use Rattle.cue_exchange.specs.Answers.{answer_passes, is_preparing, is_waiting}
 use Rattle.cue_exchange.specs.declared.attempt.Attempt.{Attempt}
 use Rattle.cue_core.specs.State.{ShowState}
 use Rattle.cue_core.specs.declared.limits.TheConstants.{STANDBY_MS}
@@ -17,6 +17,7 @@ use Rattle.cue_view.specs.declared.button.Button.TheVariants as button
 use Rattle.cue_station.specs.declared.heard.Heard.{Heard}
 use Rattle.cue_station.specs.declared.heard.Heard.TheVariants as heard
 use Rattle.cue_view.specs.declared.view.Trouble.{Trouble}
+use Rattle.cue_view.specs.declared.view.Trouble.TheVariants as trouble
 use Rattle.cue_station.specs.declared.limits.TheConstants.{COPY_MS, KEPT_SEEN, OTHER_MS, SHOWN_MS, STATUS_MS}
 use Rattle.cue_station.specs.declared.memory.Answered.{Answered}
 use Rattle.cue_station.specs.declared.memory.Question.{Question}
@@ -191,14 +192,23 @@ stopped_by (Some since) now = if is_stopped since now then Some (alarm.RelayStop
 abbrev pub relay_stopped : Facts → Option Alarm
 relay_stopped f = stopped_by f.stamped f.at
 
--- the store is old: why, if it could not be read when it was looked at last
+-- the files were not there when they were looked at last
+abbrev pub is_missing : Option Trouble → Bool
+is_missing (Some trouble.Missing) = true
+is_missing _ = false
+
+-- a copy is young, and its files were there when they were looked at last
+abbrev pub is_in_sight : Facts → Bool
+is_in_sight f = is_within COPY_MS f.at f.read && not (is_missing f.trouble)
+
+-- the store is not in sight: why, if it could not be read when it was looked at last
 abbrev pub old_by : Bool → Option Trouble → Option ℕ → Option Alarm
 old_by true why read = None
 old_by false (Some why) read = Some (alarm.Unread why)
 old_by false None read = Some (alarm.Old read)
 
 abbrev pub old_store : Facts → Option Alarm
-old_store f = old_by (is_within COPY_MS f.at f.read) f.trouble f.read
+old_store f = old_by (is_in_sight f) f.trouble f.read
 
 -- the ten seconds of the attempt are over by our clock since it is seen, and not by that of the wall
 abbrev pub is_over_by : Option ℕ → ℕ → ℕ → Attempt → Bool
@@ -211,6 +221,15 @@ is_put_back since now wall a = is_over_by (since a.seq) now wall a
 
 abbrev pub put_back_in : (ℕ → Option ℕ) → ℕ → ℕ → List Attempt → List ℕ
 put_back_in since now wall live = map (λ a. a.seq) (filter (is_put_back since now wall) live)
+
+-- a live attempt waits for the device
+abbrev pub is_awaited : List Attempt → ℕ → Bool
+is_awaited live d = list_any (λ a. answer_passes is_waiting d a.answers) live
+
+-- what the relay says of the devices for which an attempt of the newest copy waits
+abbrev pub awaited_by : Option Reading → List Contacted → List Contacted
+awaited_by None network = []
+awaited_by (Some r) network = filter (λ c. is_awaited r.copy.state.live c.device) network
 
 -- the devices that the relay calls silent
 abbrev pub silent_in : List Contacted → List ℕ

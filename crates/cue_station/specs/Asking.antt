@@ -6,7 +6,7 @@ use Rattle.std.specs.List.{list_any, list_all}
 use Rattle.std.specs.Option.{option_eq, option_map, option_map_or}
 use Rattle.std.specs.Ordering.{int_eq}
 use Rattle.cue_show.specs.Number.{same_text}
-use Rattle.cue_exchange.specs.Answers.{answer_passes, is_cancelling, is_decided, is_waiting}
+use Rattle.cue_exchange.specs.Answers.{answer_passes, is_cancelling, is_decided, is_preparing, is_waiting}
 use Rattle.cue_exchange.specs.Steps.{holds}
 use Rattle.cue_exchange.specs.Live.{attempt_of, attempt_of_cue}
 use Rattle.cue_exchange.specs.declared.attempt.Attempt.{Attempt}
@@ -213,10 +213,10 @@ is_done became.Known = true
 is_done became.Carried = true
 is_done _ = false
 
--- an attempt of the cue is live, and is not given up
+-- an attempt of the cue prepares: it is neither given nor given up
 abbrev pub stands : List ℕ → Copied → Bool
 stands cue c =
-    option_map_or (λ (a : Attempt). not (is_cancelling a.stage)) (attempt_of_cue c.state.live cue) false
+    option_map_or (λ (a : Attempt). is_preparing a.stage) (attempt_of_cue c.state.live cue) false
 
 -- the newest copy has the cue standing by no more
 abbrev pub stands_no_more : List ℕ → Option Reading → Bool

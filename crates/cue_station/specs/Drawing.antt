@@ -10,7 +10,7 @@ use Rattle.cue_view.specs.declared.view.Told.{Told}
 use Rattle.cue_view.specs.declared.view.View.{View}
 use Rattle.cue_station.specs.Turns.{Turn}
 use Rattle.cue_station.specs.Reading.{reading_of, answered_of, seen_since}
-use Rattle.cue_station.specs.Alarms.{alarms_by, asked_at, differs_since, nobody_of}
+use Rattle.cue_station.specs.Alarms.{alarms_by, asked_at, awaited_by, differs_since, nobody_of}
 use Rattle.cue_station.specs.Alarms.{put_back_in, read_at, trouble_of}
 use Rattle.cue_station.specs.Asking.{unshown_of}
 use Rattle.cue_station.specs.Following.{next_in}
@@ -70,4 +70,4 @@ failures_shown turns = shown_failures (reading_of turns) (failed_of turns)
 abbrev pub alarms_of : List Turn → ℕ → ℕ → List Alarm
 alarms_of turns now wall =
     alarms_by (facts_of turns now) (put_back_in (λ q. seen_since q turns) now wall (live_by (reading_of turns)))
-    (numbers_of (failures_shown turns)) (network_by (relayed_of turns) now)
+    (numbers_of (failures_shown turns)) (awaited_by (reading_of turns) (network_by (relayed_of turns) now))

@@ -45,7 +45,7 @@ relayed_of (t ∷ past) = relayed_with t.input.heard t.input.at (relayed_of past
 abbrev pub stamped_at : Option Relayed → Option ℕ
 stamped_at r = option_map (λ (x : Relayed). x.since) r
 
--- it has written nothing new for five seconds, whatever its own clock says
+-- it has written nothing new for two seconds, whatever its own clock says
 abbrev pub is_stopped : ℕ → ℕ → Bool
 is_stopped since now = nat_le (since + RELAY_MS) now
 

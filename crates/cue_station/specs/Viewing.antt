@@ -14,7 +14,7 @@ use Rattle.cue_view.specs.declared.view.Next.TheVariants as next
 use Rattle.cue_view.specs.declared.view.Told.{Told}
 use Rattle.cue_view.specs.declared.view.View.{View}
 use Rattle.cue_station.specs.declared.viewing.Drawn.{Drawn}
-use Rattle.cue_station.specs.Alarms.{alarms_by, asked_at, put_back_in, read_at}
+use Rattle.cue_station.specs.Alarms.{alarms_by, asked_at, awaited_by, put_back_in, read_at}
 use Rattle.cue_station.specs.Asking.{said_by, unshown_by}
 use Rattle.cue_station.specs.Choosing.{is_awaited}
 use Rattle.cue_station.specs.Drawing.{ShowsReading, live_by}
@@ -47,7 +47,7 @@ facts_by n r relay now =
 abbrev pub alarms_in : Notes → Option Reading → Option Relayed → List Seen → List Told → Footing → List Alarm
 alarms_in n r relay seen kept f =
     alarms_by (facts_by n r relay f.at) (put_back_in (since_in seen) f.at f.wall (live_by r))
-    (numbers_of (shown_failures r kept)) (network_by relay f.at)
+    (numbers_of (shown_failures r kept)) (awaited_by r (network_by relay f.at))
 
 -- ---- what is shown of a copy
 

@@ -2,23 +2,18 @@
 use Rattle.std.specs.Prelude.{◌≡◌, ◌≤◌, ℕ, Bool, true, false, not, List, [], ◌∷◌, All}
 use Rattle.std.specs.List.{list_any}
 use Rattle.cue_station.specs.declared.alarms.Facts.{Facts}
-use Rattle.cue_station.specs.declared.limits.TheConstants.{COPY_MS, STATUS_MS}
+use Rattle.cue_station.specs.declared.limits.TheConstants.{STATUS_MS}
 use Rattle.cue_view.specs.declared.view.Alarm.{Alarm}
 use Rattle.cue_view.specs.declared.view.Alarm.TheVariants as alarm
 use Rattle.cue_view.specs.declared.view.Contacted.{Contacted}
-use Rattle.cue_station.specs.Alarms.{alarms_by, is_within}
+use Rattle.cue_view.specs.Sight.{is_age}
+use Rattle.cue_station.specs.Alarms.{alarms_by, is_in_sight, is_within}
 
 -- nobody answers at the port
 abbrev pub is_silence : Alarm → Bool
 is_silence alarm.NobodyListens = true
 is_silence (alarm.Silent since) = true
 is_silence _ = false
-
--- the store is old
-abbrev pub is_age : Alarm → Bool
-is_age (alarm.Unread why) = true
-is_age (alarm.Old read) = true
-is_age _ = false
 
 -- how loud an alarm is: the loudest has 0
 abbrev pub rank_of : Alarm → ℕ
@@ -44,11 +39,11 @@ SilenceIsSaid =
     (f : Facts) (back failures : List ℕ) (network : List Contacted)
     → list_any is_silence (alarms_by f back failures network) ≡ not (is_within STATUS_MS f.at f.asked)
 
--- there is one of age exactly if no copy is young
+-- there is one of age exactly if no copy is young, or its files were not there when they were looked at last
 abbrev pub AgeIsSaid : Type 0
 AgeIsSaid =
     (f : Facts) (back failures : List ℕ) (network : List Contacted)
-    → list_any is_age (alarms_by f back failures network) ≡ not (is_within COPY_MS f.at f.read)
+    → list_any is_age (alarms_by f back failures network) ≡ not (is_in_sight f)
 
 abbrev pub LoudestFirst : Type 0
 LoudestFirst =

@@ -1,5 +1,5 @@
 //! What is wrong, the loudest first.
-ghost use Rattle.std.specs.Prelude.{◌≡◌, ◌++◌, IfOk, OnOk, Some, map};
+ghost use Rattle.std.specs.Prelude.{◌≡◌, ◌++◌, IfOk, OnOk, Some, filter, map};
 ghost use Rattle.std.specs.Option.{option_to_list};
 ghost use Rattle.cue_station.specs.Alarms as alarms;
 ghost use Rattle.cue_station.specs.Showing.{since_in};
@@ -7,7 +7,7 @@ ghost use Rattle.cue_view.specs.declared.view.Alarm.TheVariants as alarm;
 
 use crate::heard::Copied;
 use crate::limits::{COPY_MS, OTHER_MS, SHOWN_MS, STATUS_MS};
-use crate::memory::Seen;
+use crate::memory::{Reading, Seen};
 use crate::network::is_stopped;
 use crate::showing::since_in;
 use cue_core::limits::STANDBY_MS;
@@ -137,11 +137,25 @@ fn relay_stopped(facts: Facts) -> Option<Alarm>
     }
 }
 
-// The store is old.
+// Whether the files were not there when they were looked at last.
+fn is_missing(trouble: Option<Trouble>) -> bool
+    ensures { result ≡ alarms.is_missing trouble }
+{
+    matches!(trouble, Some(Trouble::Missing))
+}
+
+// Whether a copy is young, and its files were there when they were looked at last.
+fn is_in_sight(facts: Facts) -> bool
+    ensures { result ≡ alarms.is_in_sight facts }
+{
+    is_young(facts.at, facts.read) && !is_missing(facts.trouble)
+}
+
+// The store is not in sight.
 fn old_store(facts: Facts) -> Option<Alarm>
     ensures { result ≡ alarms.old_store facts }
 {
-    if is_young(facts.at, facts.read) {
+    if is_in_sight(facts) {
         return None;
     }
     match facts.trouble {
@@ -180,6 +194,43 @@ pub fn put_back_in(
         .filter(|attempt| is_put_back(seen, at, wall, attempt))
         .map(|attempt| attempt.seq)
         .collect(alloc)
+}
+
+// Whether a live attempt waits for the device.
+fn is_awaited(live: &[Attempt], device: DeviceNo) -> bool
+    ensures { result ≡ alarms.is_awaited live.now device }
+{
+    live.iter().any(|attempt| attempt.answers.waits_for(device))
+}
+
+// Of what the relay says, that of the devices for which one of the attempts waits.
+fn awaited_in(
+    alloc: Global,
+    live: &[Attempt],
+    network: &[Contacted],
+) -> Result<Vec<Contacted>, AllocError>
+    ensures { IfOk result (λ v. v.items ≡ filter (λ c. alarms.is_awaited live.now c.device) network.now) }
+{
+    network
+        .iter()
+        .copied()
+        .filter(|contact| is_awaited(live, contact.device))
+        .collect(alloc)
+}
+
+/// What the relay says of the devices for which an attempt of the newest copy waits. A device that is silent, and for
+/// which nobody waits any more, is no alarm: nothing is owed to it, and it may never speak again by itself.
+pub fn awaited_by(
+    alloc: Global,
+    reading: &Option<Reading>,
+    network: &[Contacted],
+) -> Result<Vec<Contacted>, AllocError>
+    ensures { IfOk result (λ v. v.items ≡ alarms.awaited_by reading.now network.now) }
+{
+    match reading {
+        Some(reading) => awaited_in(alloc, reading.copy.state.live().as_slice(), network),
+        None => Ok(Vec::new(alloc)),
+    }
 }
 
 // The devices that the relay calls silent.
@@ -237,7 +288,7 @@ fn push_silent(all: &mut Vec<Alarm>, devices: &[DeviceNo]) -> Result<(), AllocEr
 }
 
 /// What is wrong, the loudest first. `put_back`: the attempts of `put_back_in`; `failed`: the failures that are shown;
-/// `network`: what the relay says of its devices.
+/// `network`: what the relay says of the devices that are awaited.
 pub fn alarms_of(
     alloc: Global,
     facts: Facts,

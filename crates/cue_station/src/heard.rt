@@ -6,8 +6,8 @@ use cue_relay::status::Status;
 use cue_view::button::Button;
 use cue_view::view::{Kept, Trouble};
 
-/// A copy of the store: what both files stood for at one moment, not before `begun`, and the events of the records that
-/// follow the snapshot, the oldest first.
+/// A copy of the store: what both files stood for at one moment, not before `begun`, and the events that their records
+/// tell, up to that moment, the oldest first. Those of before are forgotten.
 #[derive(Drop)]
 pub struct Copied {
     pub begun: u64,

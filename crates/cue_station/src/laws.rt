@@ -51,7 +51,7 @@ pub fn other_cue_is_refused()
 {}
 
 /// What the desk stands by, in milliseconds: a copy for 1,000, a status for 2,000, a view for a press for 1,000.
-/// Another store is named after 1,000, a relay has stopped after 5,000. A press may name one of the newest 128 views, 8
+/// Another store is named after 1,000, a relay has stopped after 2,000. A press may name one of the newest 128 views, 8
 /// attempts are told as ended, and of 64 attempts in a row each keeps that it was seen. Of what went wrong, and nobody
 /// has seen, 64 attempts are kept that the newest copy no longer tells of. A GO within 1,000 of another is its second
 /// tap, and a press that was made is shown by the store within 1,000. The status is asked 100 after a question that was
@@ -63,7 +63,7 @@ pub fn limits()
     ensures views { KEPT_VIEWS ≡ 128 }
     ensures told { MAX_TOLD ≡ 8 }
     ensures other { OTHER_MS ≡ 1000 }
-    ensures relay { RELAY_MS ≡ 5000 }
+    ensures relay { RELAY_MS ≡ 2000 }
     ensures seen { KEPT_SEEN ≡ 64 }
     ensures failures { KEPT_FAILURES ≡ 64 }
     ensures tap { TAP_MS ≡ 1000 }

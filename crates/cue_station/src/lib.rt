@@ -38,7 +38,7 @@
 //! - What is left of ten seconds is what the earlier of two clocks leaves: a clock that is put back makes no time.
 //! - Another store is named after a second of disagreement: each change makes a short one. STANDBY and GO are dark at
 //!   once.
-//! - A relay that cannot be read has written nothing new: what it wrote last stands, and after five seconds it has
+//! - A relay that cannot be read has written nothing new: what it wrote last stands, and after two seconds it has
 //!   stopped. A device is as old as its relay said, and the time since; if the relay's clock was put back its age is
 //!   unknown, and not 0.
 //! - The number of a view is that of the views before it: a drawing of an older view never replaces a newer one.

@@ -32,7 +32,7 @@ pub const KEPT_FAILURES: usize = 64;
 pub const OTHER_MS: u64 = 1_000;
 
 /// How long a relay has to write nothing new before it counts as stopped, in milliseconds.
-pub const RELAY_MS: u64 = 5_000;
+pub const RELAY_MS: u64 = 2_000;
 
 /// How soon after a GO another one is the second tap of one finger, in milliseconds.
 pub const TAP_MS: u64 = 1_000;

@@ -2,7 +2,7 @@
 //! while its cue stands by: a green line that is not so would be believed.
 ghost use Rattle.std.specs.Prelude.{◌≡◌};
 ghost use Rattle.std.specs.Option.{option_map, option_map_or};
-ghost use Rattle.cue_exchange.specs.Answers.{is_cancelling};
+ghost use Rattle.cue_exchange.specs.Answers.{is_preparing};
 ghost use Rattle.cue_exchange.specs.Live.{attempt_of_cue};
 ghost use Rattle.cue_station.specs.Asking as asking;
 ghost use Rattle.cue_station.specs.declared.memory.Word.{Word};
@@ -36,12 +36,12 @@ fn is_done(became: Became) -> bool
     }
 }
 
-// Whether an attempt of the cue is live, and is not given up.
+// Whether an attempt of the cue prepares: it is neither given nor given up.
 fn stands(cue: CueNo, copy: &Copied) -> bool
     ensures { result ≡ asking.stands cue copy.now }
 {
     match copy.state.live().of_cue(cue) {
-        Some(attempt) => !attempt.stage.is_cancelling(),
+        Some(attempt) => attempt.stage.is_preparing(),
         None => false,
     }
 }

@@ -7,7 +7,7 @@ ghost use Rattle.cue_station.specs.Network as network;
 ghost use Rattle.cue_station.specs.Showing.{since_in};
 ghost use Rattle.cue_station.specs.Viewing as viewing;
 
-use crate::alarms::{Facts, alarms_of, put_back_in};
+use crate::alarms::{Facts, alarms_of, awaited_by, put_back_in};
 use crate::choosing::is_awaited;
 use crate::following::next_in;
 use crate::heard::Copied;
@@ -101,11 +101,12 @@ fn alarms(
 ) -> Result<Vec<Alarm>, AllocError>
     ensures { IfOk result (λ v. v.items ≡ alarms.alarms_by facts
         (alarms.put_back_in (since_in seen.now) facts.at wall (drawing.live_by reading.now))
-        (numbers_of failed.now) network.now) }
+        (numbers_of failed.now) (alarms.awaited_by reading.now network.now)) }
 {
     let put_back = put_back(alloc, reading, seen, facts.at, wall)?;
     let numbers = numbers_of(alloc, failed)?;
-    alarms_of(alloc, facts, &put_back, &numbers, network)
+    let awaited = awaited_by(alloc, reading, network)?;
+    alarms_of(alloc, facts, &put_back, &numbers, &awaited)
 }
 
 // What is shown if nothing was read.

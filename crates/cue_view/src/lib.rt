@@ -5,5 +5,6 @@
 
 pub mod button;
 pub mod late;
+mod sight;
 pub mod view;
 mod whole;

@@ -7,7 +7,7 @@ ghost use Rattle.cue_page.specs.Live as spec;
 use cue_board::{Progress, progress_of, progress_word};
 use cue_exchange::DeviceAnswer;
 use cue_show_file::cue_text;
-use cue_view::view::LiveAttempt;
+use cue_view::view::{LiveAttempt, View};
 use cue_words::{answer_words, reason_words};
 use serde_json::{Value, json};
 use std::alloc::{AllocError, Global};
@@ -53,13 +53,17 @@ fn given_value(at: u64, given: Option<u64>) -> Value
 }
 
 /// A live attempt: how far it has come, what is left of its ten seconds in milliseconds, and its devices.
-pub fn attempt_value(alloc: Global, attempt: &LiveAttempt, at: u64) -> Result<Value, AllocError>
-    ensures { IfOk result (λ v. view v ≡ spec.attempt_data at attempt.now) }
+pub fn attempt_value(
+    alloc: Global,
+    attempt: &LiveAttempt,
+    shown: &View,
+) -> Result<Value, AllocError>
+    ensures { IfOk result (λ v. view v ≡ spec.attempt_data shown.now attempt.now) }
 {
-    let progress = progress_of(attempt);
+    let progress = progress_of(attempt, shown.is_in_sight());
     let (cue, seq) = (cue_text(&attempt.cue), u64::from(attempt.seq));
     let (stage, reason) = (progress_word(progress), why(progress));
-    let given = given_value(at, attempt.given);
+    let given = given_value(shown.at, attempt.given);
     let devices = devices_value(alloc, attempt.devices.as_slice())?;
     json!(in alloc; {
         "attempt": seq, "cue": cue, "devices": devices, "given": given, "left": attempt.left, "ready": attempt.ready,
@@ -67,13 +71,17 @@ pub fn attempt_value(alloc: Global, attempt: &LiveAttempt, at: u64) -> Result<Va
     })
 }
 
-/// The live attempts, at the moment of their view.
-pub(super) fn live_value(alloc: Global, live: &[LiveAttempt], at: u64) -> Result<Value, AllocError>
-    ensures { IfOk result (λ v. view v ≡ array (items_of (map (spec.attempt_data at) live.now))) }
+/// The live attempts of a view.
+pub(super) fn live_value(
+    alloc: Global,
+    live: &[LiveAttempt],
+    shown: &View,
+) -> Result<Value, AllocError>
+    ensures { IfOk result (λ v. view v ≡ array (items_of (map (spec.attempt_data shown.now) live.now))) }
 {
     let mut attempts = Vec::with_capacity(alloc, live.len())?;
     for attempt in live {
-        attempts.push(attempt_value(alloc, attempt, at)?)?;
+        attempts.push(attempt_value(alloc, attempt, shown)?)?;
     }
     Ok(Value::Array(attempts))
 }

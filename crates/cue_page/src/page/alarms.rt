@@ -89,7 +89,7 @@ function showEnds() {
   at("last").className = view.last && view.last.outcome === "failed" ? "failed" : "";
   at("history").hidden = !view.past.length;
   place("past", () => view.past.map((told) => make("li", told.outcome === "failed" ? "bad" : "", endWords(told))),
-    JSON.stringify([view.past, renamed]));
+    JSON.stringify([view.past, movingNow(), renamed]));
 }
 
 // What a screen reader is told when it changes: what is wrong, and how far each cue is.

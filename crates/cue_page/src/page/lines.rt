@@ -4,8 +4,8 @@
 /// The text of a `script`.
 pub(super) const LINES: &str = r#"
 "use strict";
-const NOTED = 6000, TAP = 1000, NO_GO = { press: "", at: -Infinity };
-let note = { draw: () => ["", ""], until: 0, said: "", holds: () => true }, lastGo = NO_GO;
+const NOTED = 6000, TAP = 1000, NO_PRESS = { press: "", at: -Infinity };
+let note = { draw: () => ["", ""], until: 0, said: "", holds: () => true }, lastGo = NO_PRESS, lastStandby = NO_PRESS;
 
 // The last press that was sent, and what became of it, as far as the line goes.
 const saidNow = () => view && view.said ? view.said.ask + " " + view.said.kind : "";
@@ -26,14 +26,20 @@ function sayDark(id) {
   showWords();
 }
 
-// What became of the GO that was sent from here, if it was not refused.
-function goKind() {
-  const kind = view && view.said && view.said.press === lastGo.press ? view.said.kind : "open";
+// What became of a press that was sent from here, if it was not refused.
+function kindOf(sent) {
+  const kind = view && view.said && view.said.press === sent.press ? view.said.kind : "open";
   return ["open", "said", "made"].includes(kind) ? kind : null;
 }
 
+const goKind = () => kindOf(lastGo);
+
 // A second tap within a second of a GO is the same press: a foot switch bounces. It gives no cue, and refuses none.
 const isTap = () => now() - lastGo.at < TAP && goKind() !== null;
+
+// The same of a STANDBY, unless it is that of another cue by now: it stands by what the first one did, and says no more.
+const isBounce = () => now() - lastStandby.at < TAP && kindOf(lastStandby) !== null
+  && (!keyOf("standby") || keyOf("standby").press === lastStandby.press);
 
 // That the tap did not give the cue either that was chosen here since the GO.
 function otherWords() {
@@ -55,7 +61,9 @@ function sayTap() {
 
 // A press that was not sent.
 function notGiven(press, why) {
-  if (press === lastGo.press) lastGo = NO_GO;
+  if (press === lastGo.press) lastGo = NO_PRESS;
+  if (press === lastStandby.press) lastStandby = NO_PRESS;
+  expected = null;
   say(press + ": " + why, "refused", NOTED);
 }
 

@@ -6,7 +6,7 @@ pub(super) const LIVE: &str = r#"
 const CLASSES = { waiting: "waiting", ready: "is-ready", done: "done", failed: "failed-device", excused: "excused" };
 const SIGNS = { waiting: "\u2026", ready: "\u2713", done: "\u25a0", failed: "\u2715", excused: "\u2013" };
 const STAGES = { ready: "ready, GO can be given", held: "held, GO is dark", preparing: "preparing",
-  over: "its ten seconds are over", given: "given", "given up": "given up" };
+  over: "its ten seconds are over", unseen: "was preparing when this was read", given: "given", "given up": "given up" };
 // A GO of the attempt is one of the last two presses, and this became of it.
 const isGo = (attempt, kind) => [view.said, view.before].some((press) => press && press.kind === kind
   && press.press === "go " + attempt.cue + " " + attempt.attempt);
@@ -14,7 +14,9 @@ const isGo = (attempt, kind) => [view.said, view.before].some((press) => press &
 const isGoing = (attempt) => isGo(attempt, "open");
 const heldWords = (attempt) => isGoing(attempt) ? "held, GO may still be given"
   : isGo(attempt, "said") ? "held, serve says that GO was given" : STAGES.held;
+const unseenWords = (attempt) => STAGES.unseen + (isGoing(attempt) ? "; a GO is open" : "");
 const stageWords = (attempt) => attempt.stage === "held" ? heldWords(attempt)
+  : attempt.stage === "unseen" ? unseenWords(attempt)
   : STAGES[attempt.stage] + (attempt.reason ? ": " + attempt.reason : "");
 const isOpen = (attempt) => ["ready", "held", "preparing", "over"].includes(attempt.stage);
 const waitedFor = (attempt) => attempt.devices.filter((one) => one.answer === "waiting").map((one) => one.device);

@@ -16,9 +16,17 @@ const hasFailed = (device) =>
 const isLeft = (contact) => contact.heard.startsWith("GO sent") && hasFailed(contact.device)
   && !view.live.some((one) => waitedFor(one).includes(contact.device));
 
+// It has answered since, or a cue waits for it again, or nothing is told of its failure any more. A relay that was
+// started again has heard nothing of it, and tells neither.
+function isSettled(device) {
+  const contact = contactOf(device);
+  return !hasFailed(device) || view.live.some((one) => waitedFor(one).includes(device))
+    || (contact !== undefined && contact.heard.startsWith("heard"));
+}
+
 function followMoving() {
   const left = view.network.filter(isLeft).map((contact) => contact.device);
-  for (const device of [...since.keys()]) if (!left.includes(device)) since.delete(device);
+  for (const device of [...since.keys()]) if (isSettled(device)) since.delete(device);
   for (const device of left) if (!since.has(device)) since.set(device, now());
 }
 
@@ -43,5 +51,6 @@ function movingAlarm(device) {
   return { kind: "moving", of: device, words: "device " + called(device, deviceName(device)) + words };
 }
 
-const movingAlarms = () => [...since.keys()].filter(mayMove).map(movingAlarm);
+const movingNow = () => [...since.keys()].filter(mayMove);
+const movingAlarms = () => movingNow().map(movingAlarm);
 "#;

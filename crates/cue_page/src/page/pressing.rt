@@ -63,6 +63,8 @@ async function send(press) {
   if (wantsWord(press) && text === undefined) { askWord(press); return; }
   say(press + " \u2026", "open", NOTED);
   if (press.startsWith("go ")) lastGo = { press, at: now() };
+  lastStandby = press.startsWith("standby ") ? { press, at: now() } : NO_PRESS;
+  expectOwn(press);
   try {
     const headers = { "Cuedesk-Token": token, ...(text === undefined ? {} : { "Cuedesk-Word": text }) };
     const reply = await fetch("/command", { method: "POST", headers, body: view.number + " " + press });
@@ -78,6 +80,7 @@ async function send(press) {
 // A key or a great button: the lit one of the view that is drawn.
 function press(id) {
   if (id === "go" && isTap()) { sayTap(); return; }
+  if (id === "standby" && isBounce()) return;
   const lit = keyOf(id);
   if (lit) send(lit.press);
   else sayDark(id);
@@ -91,6 +94,14 @@ function fieldKey(event) {
 }
 
 for (const id of ["find", "lock-word"]) at(id).addEventListener("keydown", fieldKey);
+
+// The same of a space that presses another button, since that has the focus.
+function otherKey() {
+  const other = document.activeElement;
+  if (other.id !== "go" && view && view.live.some((attempt) => attempt.stage === "ready"))
+    say("The space pressed the button that has the focus, and gave no GO", "refused", NOTED,
+      () => document.activeElement === at(other.id));
+}
 
 // The key R: the one device that keeps GO waiting is released by a second press within three seconds.
 function pressRelease() {
@@ -112,7 +123,8 @@ document.addEventListener("keydown", (event) => {
   if (event.repeat || event.ctrlKey || event.altKey || event.metaKey || manner.readonly) return;
   if (event.target instanceof HTMLInputElement) return;
   const id = { s: "standby", S: "standby", " ": "go", Escape: "cancel", r: "release", R: "release" }[event.key];
-  if (!id || (event.key === " " && document.activeElement instanceof HTMLButtonElement)) return;
+  if (event.key === " " && document.activeElement instanceof HTMLButtonElement) { otherKey(); return; }
+  if (!id) return;
   event.preventDefault();
   if (id === "release") pressRelease();
   else press(id);

@@ -21,6 +21,12 @@ function showHeard(cell, contact) {
   if (cell.textContent !== words) cell.textContent = words;
 }
 
+// The relay writes ten times a second. What it wrote of a device before that device answered is not of now.
+const isPassed = (contact, answer) => contact !== undefined
+  && ((answer === "ready" && contact.heard.startsWith("STANDBY sent"))
+  || (answer === "done" && contact.heard.includes(" sent, ")));
+const contactBeside = (one) => isPassed(contactOf(one.device), one.answer) ? undefined : contactOf(one.device);
+
 function heardLine(contact) {
   const line = make("li"), words = make("span");
   words.id = "heard-" + contact.device;
@@ -33,7 +39,7 @@ function showNetwork() {
   place("heard", () => view.network.map(heardLine), JSON.stringify([view.network.map((one) => one.device), renamed]));
   for (const contact of view.network) showHeard(at("heard-" + contact.device), contact);
   for (const attempt of view.live) for (const one of attempt.devices)
-    showHeard(at("heard-" + attempt.attempt + "-" + one.device), contactOf(one.device));
+    showHeard(at("heard-" + attempt.attempt + "-" + one.device), contactBeside(one));
 }
 
 // Who is silent, before it is long enough to be an alarm: the desk itself, else the controller and the relay.

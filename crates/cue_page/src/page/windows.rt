@@ -5,8 +5,9 @@
 pub(super) const WINDOWS: &str = r#"
 "use strict";
 const OWN = "cuedesk-own";
-// The ask of a STANDBY of this window whose attempt is not shown yet; and the attempt that is its choice.
-let awaited = null, own = null;
+// The ask of a STANDBY of this window whose attempt is not shown yet; the attempt that is its choice; and the one that
+// it has just chosen, until the desk has answered.
+let awaited = null, own = null, expected = null;
 
 function keepOwn() {
   try { sessionStorage.setItem(OWN, JSON.stringify({ run, own })); } catch (error) { /* it lasts until a reload */ }
@@ -31,9 +32,16 @@ function followChoice() {
   keepOwn();
 }
 
+// A choice of this window is on its way.
+function expectOwn(press) {
+  const [verb, number] = press.split(" ");
+  expected = verb === "choose" ? Number(number) : null;
+}
+
 // A press of this window that was sent: a STANDBY, or a choice.
 function ownPress(press, told) {
   const [verb, number] = press.split(" ");
+  expected = null;
   if (verb === "standby" && told.view.said && told.view.said.press === press) awaited = told.view.said.ask;
   if (verb !== "choose") return;
   own = Number(number);
@@ -41,5 +49,5 @@ function ownPress(press, told) {
   keepOwn();
 }
 
-const isOwn = () => view !== null && view.chosen !== null && view.chosen === own;
+const isOwn = () => view !== null && view.chosen !== null && [own, expected].includes(view.chosen);
 "#;

@@ -7,4 +7,4 @@ use Rattle.cue_board.proofs.brief.push_live_brief.Given as goal
 abbrev pub invariant-loop-attempt : goal.invariant-loop-attempt
 invariant-loop-attempt l =
     map said_of l.lines.items
-    ≡ map said_of l.fn.lines.items ++ flat_map (attempt_brief l.at) (take l.attempt-index l.live)
+    ≡ map said_of l.fn.lines.items ++ flat_map (attempt_brief l.view) (take l.attempt-index l.live)

@@ -7,4 +7,4 @@ use Rattle.cue_board.proofs.live.push_attempts.Given as goal
 abbrev pub invariant-loop-attempt : goal.invariant-loop-attempt
 invariant-loop-attempt l =
     map said_of l.lines.items
-    ≡ map said_of l.fn.lines.items ++ flat_map (attempt_lines l.at) (take l.attempt-index l.live)
+    ≡ map said_of l.fn.lines.items ++ flat_map (attempt_lines l.view) (take l.attempt-index l.live)

@@ -1,1 +1,2 @@
 pub mod PressLemmas
+pub mod StruckLemmas

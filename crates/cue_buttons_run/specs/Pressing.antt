@@ -1,6 +1,6 @@
 -- What is pressed at a desk without a browser, and by what.
 use Rattle.std.specs.Prelude.{◌≡◌, ◌⊎◌, Bool, true, false, ℕ, Option, None, Some, Result, Ok, Err}
-use Rattle.cue_desk_run.specs.Working.{HearsIf, Stays}
+use Rattle.cue_desk_run.specs.Working.{HearsFor, HearsIf, Stays}
 use Rattle.cue_midi.specs.declared.heard.Heard.{Heard}
 use Rattle.cue_midi.specs.declared.heard.Heard.TheVariants as midi
 use Rattle.cue_presses.specs.declared.address.Spoken.{Spoken}
@@ -79,3 +79,38 @@ StrikesSpoken _ h old new v v_then = Stays old new v v_then
 abbrev pub Takes : Setting → Hand → Heard → (old new : Station) → (v v_then : View) → Type 0
 Takes s h (midi.Show show) old new v v_then = StrikesSpoken (spoken_to s.address show) h old new v v_then
 Takes s h m old new v v_then = StrikesBy (intent_of s.keys h.pedals m) (after s.keys m h) old new v v_then
+
+-- ---- why a press is heard
+
+-- a key means this press, at a view and by a hand; what is no key means none
+abbrev pub MeansBy : Option Intent → Hand → View → Press → Type 0
+MeansBy (Some i) h v p = comes_of h v i ≡ struck.Presses p
+MeansBy None h v p = ⊥
+
+-- so does a command of show control that is for this desk
+abbrev pub MeansSpoken : Spoken → Hand → View → Press → Type 0
+MeansSpoken (spoken.Intent i) h v p = comes_of h v i ≡ struck.Presses p
+MeansSpoken _ h v p = ⊥
+
+-- so does a message of MIDI
+abbrev pub Means : Setting → Hand → Heard → View → Press → Type 0
+Means s h (midi.Show show) v p = MeansSpoken (spoken_to s.address show) h v p
+Means s h m v p = MeansBy (intent_of s.keys h.pedals m) (after s.keys m h) v p
+
+-- it is the button of the press, or the choice before it
+abbrev pub IsOfPress : Press → Button → Type 0
+IsOfPress p b = (b ≡ p.button) ⊎ ((q : ℕ) × (p.choose ≡ Some q) × (b ≡ button.Choose q))
+
+-- Why a press of this button is heard: a message of MIDI means it, by what the hand has done and the view shows.
+pub record IsStruck (s : Setting) (view : ℕ) (b : Button) : Type 0 where
+  pub message : Heard
+  pub hand : Hand
+  pub shown : View
+  pub press : Press
+  pub means : Means s hand message shown press
+  pub is : IsOfPress press b
+
+-- Each press that the desk heard was struck, and the panel is set as before.
+pub record OnlyStruck (s s_then : Setting) (old new : Station) : Type 0 where
+  pub struck : HearsFor (IsStruck s) old new
+  pub setting : s_then ≡ s

@@ -1,4 +1,7 @@
 //! The device that is heard, and the rounds of a real desk.
+ghost use Rattle.std.specs.Prelude.{◌≡◌};
+ghost use Rattle.cue_buttons_run.specs.Pressing.{OnlyStruck};
+
 use crate::device::{Came, Device};
 use crate::panel::Panel;
 use cue_desk::ending::Ending;
@@ -52,7 +55,10 @@ impl<'a> Ear<'a> {
         rt: &R,
         panel: &mut Panel<'_, R>,
         now: u64,
-    ) -> Result<(), AllocError> {
+    ) -> Result<(), AllocError>
+        ensures desk { panel.new.desk ≡ panel.old.desk }
+        ensures setting { panel.new.setting ≡ panel.old.setting }
+    {
         let path = self.path;
         match Device::open(rt, panel.registry(), path) {
             Ok(device) => {
@@ -71,10 +77,13 @@ impl<'a> Ear<'a> {
     }
 
     // Reads a piece of what is there, and lets the panel hear it. Answers whether there may be more.
+    #[tactic(auto, using(crate::proofs::StruckLemmas::struck_same, crate::proofs::StruckLemmas::struck_then))]
     fn hear_piece<R: Files<File = File> + Net + Clock + AllocGlobal>(
         &mut self,
         panel: &mut Panel<'_, R>,
-    ) -> Result<Result<bool, Silence>, AllocError> {
+    ) -> Result<Result<bool, Silence>, AllocError>
+        ensures { OnlyStruck panel.old.setting panel.new.setting panel.old.desk.station panel.new.desk.station }
+    {
         let Some(device) = &mut self.device else {
             return Ok(Ok(false));
         };
@@ -95,10 +104,13 @@ impl<'a> Ear<'a> {
     }
 
     // Hears what is there, up to so much.
+    #[tactic(auto, using(crate::proofs::StruckLemmas::struck_same, crate::proofs::StruckLemmas::struck_then))]
     fn hear<R: Files<File = File> + Net + Clock + AllocGlobal>(
         &mut self,
         panel: &mut Panel<'_, R>,
-    ) -> Result<Option<Silence>, AllocError> {
+    ) -> Result<Option<Silence>, AllocError>
+        ensures { OnlyStruck panel.old.setting panel.new.setting panel.old.desk.station panel.new.desk.station }
+    {
         let most = if panel.is_settled() {
             PIECES
         } else {
@@ -127,7 +139,10 @@ impl<'a> Ear<'a> {
         &mut self,
         panel: &mut Panel<'_, R>,
         silence: &Silence,
-    ) -> Result<bool, AllocError> {
+    ) -> Result<bool, AllocError>
+        ensures desk { panel.new.desk ≡ panel.old.desk }
+        ensures setting { panel.new.setting ≡ panel.old.setting }
+    {
         let path = self.path;
         self.device = None;
         self.is_told = false;
@@ -157,18 +172,36 @@ fn say_opening<W: Write>(alloc: Global, ear: &mut Ear<'_>, writer: &mut W) -> Re
     print(writer, text.as_str())
 }
 
+// Opens the device if it is not open, and that is due.
+fn open_if_due<R: Files<File = File> + Net + Clock + AllocGlobal, W: Write>(
+    rt: &R,
+    ear: &mut Ear<'_>,
+    panel: &mut Panel<'_, R>,
+    now: u64,
+    writer: &mut W,
+) -> Result<(), Ending>
+    ensures desk { panel.new.desk ≡ panel.old.desk }
+    ensures setting { panel.new.setting ≡ panel.old.setting }
+{
+    if ear.device.is_none() && ear.tries.is_due(now) {
+        say_opening(rt.alloc(), ear, writer)?;
+        ear.open(rt, panel, now)?;
+    }
+    Ok(())
+}
+
 // Opens the device if it is not open, and hears what is there. Answers whether it has ended.
+#[tactic(auto, using(crate::proofs::StruckLemmas::struck_same, crate::proofs::StruckLemmas::struck_then))]
 fn listen<R: Files<File = File> + Net + Clock + AllocGlobal, W: Write>(
     rt: &R,
     ear: &mut Ear<'_>,
     panel: &mut Panel<'_, R>,
     now: u64,
     writer: &mut W,
-) -> Result<bool, Ending> {
-    if ear.device.is_none() && ear.tries.is_due(now) {
-        say_opening(rt.alloc(), ear, writer)?;
-        ear.open(rt, panel, now)?;
-    }
+) -> Result<bool, Ending>
+    ensures { OnlyStruck panel.old.setting panel.new.setting panel.old.desk.station panel.new.desk.station }
+{
+    open_if_due(rt, ear, panel, now, writer)?;
     panel.begin(now);
     let heard = ear.hear(panel)?;
     let silence = if heard.is_none() && ear.is_elsewhere(rt, now) {
@@ -182,55 +215,139 @@ fn listen<R: Files<File = File> + Net + Clock + AllocGlobal, W: Write>(
     }
 }
 
+// Hears who presses. Answers whether the device has ended.
+fn hear_now<R: Files<File = File> + Net + Clock + Eprint + AllocGlobal, W: Write>(
+    rt: &R,
+    ear: &mut Ear<'_>,
+    panel: &mut Panel<'_, R>,
+    writer: &mut W,
+) -> Result<bool, Ending>
+    ensures { OnlyStruck panel.old.setting panel.new.setting panel.old.desk.station panel.new.desk.station }
+{
+    match panel.now() {
+        Ok(now) => listen(rt, ear, panel, now, writer),
+        Err(why) => Err(failed(rt, &why)),
+    }
+}
+
+// Hears the controller and the store.
+#[tactic(auto, using(crate::proofs::StruckLemmas::struck_looks))]
+fn look<R: Files<File = File> + Net + Clock + Eprint + AllocGlobal>(
+    rt: &R,
+    panel: &mut Panel<'_, R>,
+) -> Result<(), Ending>
+    ensures { OnlyStruck panel.old.setting panel.new.setting panel.old.desk.station panel.new.desk.station }
+{
+    match panel.round() {
+        Ok(()) => Ok(()),
+        Err(why) => Err(failed(rt, &why)),
+    }
+}
+
+// Prints what there is to tell.
+fn tell<R: Files<File = File> + Net + Clock + Eprint + AllocGlobal, W: Write>(
+    rt: &R,
+    panel: &mut Panel<'_, R>,
+    writer: &mut W,
+) -> Result<(), Ending>
+    ensures station { panel.new.desk.station ≡ panel.old.desk.station }
+    ensures setting { panel.new.setting ≡ panel.old.setting }
+{
+    let text = panel.take_text()?;
+    if !text.is_empty() {
+        print(writer, text.as_str())?;
+    }
+    say_fault(rt, panel.take_fault());
+    Ok(())
+}
+
+// The same, as a part of a round.
+#[tactic(auto, using(crate::proofs::StruckLemmas::struck_same))]
+fn tell_on<R: Files<File = File> + Net + Clock + Eprint + AllocGlobal, W: Write>(
+    rt: &R,
+    panel: &mut Panel<'_, R>,
+    writer: &mut W,
+) -> Result<(), Ending>
+    ensures { OnlyStruck panel.old.setting panel.new.setting panel.old.desk.station panel.new.desk.station }
+{
+    tell(rt, panel, writer)
+}
+
 // One round: who presses is heard first. Answers whether the device has ended.
 fn round<R: Files<File = File> + Net + Clock + Eprint + AllocGlobal, W: Write>(
     rt: &R,
     ear: &mut Ear<'_>,
     panel: &mut Panel<'_, R>,
     writer: &mut W,
-) -> Result<bool, Ending> {
-    let now = match panel.now() {
-        Ok(now) => now,
-        Err(why) => return Err(failed(rt, &why)),
-    };
-    let has_ended = listen(rt, ear, panel, now, writer)?;
-    if let Err(why) = panel.round() {
-        return Err(failed(rt, &why));
+) -> Result<bool, Ending>
+    ensures { OnlyStruck panel.old.setting panel.new.setting panel.old.desk.station panel.new.desk.station }
+{
+    let has_ended = hear_now(rt, ear, panel, writer)?;
+    look(rt, panel)?;
+    tell_on(rt, panel, writer)?;
+    Ok(has_ended)
+}
+
+// Waits until something comes.
+#[tactic(auto, using(crate::proofs::StruckLemmas::struck_same))]
+fn wait<R: Files<File = File> + Net + Clock + Eprint + AllocGlobal>(
+    rt: &R,
+    panel: &mut Panel<'_, R>,
+) -> Result<(), Ending>
+    ensures { OnlyStruck panel.old.setting panel.new.setting panel.old.desk.station panel.new.desk.station }
+{
+    match panel.wait(PAUSE) {
+        Ok(()) => Ok(()),
+        Err(why) => Err(failed(rt, &why)),
     }
-    let text = panel.take_text()?;
-    if !text.is_empty() {
-        print(writer, text.as_str())?;
+}
+
+// One round, and then it waits, unless the device has ended: it answers whether it has.
+fn go_on<R: Files<File = File> + Net + Clock + Eprint + AllocGlobal, W: Write>(
+    rt: &R,
+    ear: &mut Ear<'_>,
+    panel: &mut Panel<'_, R>,
+    writer: &mut W,
+) -> Result<bool, Ending>
+    ensures { OnlyStruck panel.old.setting panel.new.setting panel.old.desk.station panel.new.desk.station }
+{
+    let has_ended = round(rt, ear, panel, writer)?;
+    if !has_ended {
+        wait(rt, panel)?;
     }
-    say_fault(rt, panel.take_fault());
     Ok(has_ended)
 }
 
 // Hears until the device ends, or a signal ends it.
+#[tactic(auto, using(crate::proofs::StruckLemmas::struck_none, crate::proofs::StruckLemmas::struck_then))]
 fn hear_on<R: Files<File = File> + Net + Clock + Eprint + AllocGlobal, W: Write>(
     rt: &R,
     ear: &mut Ear<'_>,
     panel: &mut Panel<'_, R>,
     writer: &mut W,
-) -> Result<(), Ending> {
+) -> Result<(), Ending>
+    ensures { OnlyStruck panel.old.setting panel.new.setting panel.old.desk.station panel.new.desk.station }
+{
     for _ in 0..u64::MAX {
-        if round(rt, ear, panel, writer)? {
+        if go_on(rt, ear, panel, writer)? {
             return Ok(());
-        }
-        if let Err(why) = panel.wait(PAUSE) {
-            return Err(failed(rt, &why));
         }
     }
     Ok(())
 }
 
 /// Hears a panel's device at this path until the device ends, or a signal ends it. It sends one message for each press
-/// that a view has lit, and by itself asks for the status alone.
+/// that a view has lit, and by itself asks for the status alone: each press that the desk hears is one that a message
+/// of the device means.
+#[tactic(auto, using(crate::proofs::StruckLemmas::struck_same, crate::proofs::StruckLemmas::struck_then))]
 pub fn hear_all<R: Files<File = File> + Net + Clock + Eprint + AllocGlobal, W: Write>(
     rt: &R,
     path: &str,
     panel: &mut Panel<'_, R>,
     writer: &mut W,
-) -> Result<(), Ending> {
+) -> Result<(), Ending>
+    ensures { OnlyStruck panel.old.setting panel.new.setting panel.old.desk.station panel.new.desk.station }
+{
     panel.say_keys()?;
     let mut ear = Ear {
         path,

@@ -1,6 +1,6 @@
 //! What is heard of a real desk, and what it presses, as lines of text.
 ghost use Rattle.std.specs.Prelude.{◌≡◌};
-ghost use Rattle.cue_buttons_run.specs.Pressing.{AtMost, Strikes, StrikesSpoken, Takes};
+ghost use Rattle.cue_buttons_run.specs.Pressing.{AtMost, OnlyStruck, Strikes, StrikesSpoken, Takes};
 ghost use Rattle.cue_presses.specs.Address.{spoken_to};
 ghost use Rattle.cue_presses.specs.Hand.{comes_of};
 
@@ -10,9 +10,7 @@ use crate::pressing::{Outcome, press_at};
 use cue_board::unsent_words;
 use cue_desk_run::{Beat, Desk};
 use cue_midi::{Heard, Parser, Show};
-use cue_press_words::{
-    button_words, intent_words, key_words, spoken_words, trouble_words, why_words,
-};
+use cue_press_words::{button_words, intent_words, spoken_words, trouble_words, why_words};
 use cue_presses::{
     Address, Hand, Intent, Keys, Passed, Press, Spoken, Struck, Tally, Why, intent_of,
     is_first_of_keys, is_of_keys, spoken_to,
@@ -113,53 +111,42 @@ impl<'a, R: Files<File = File> + Net + Clock + AllocGlobal> Panel<'a, R> {
     }
 
     /// Waits until something comes, and at most so many milliseconds.
-    pub fn wait(&mut self, most: u64) -> io::Result<()> {
+    pub fn wait(&mut self, most: u64) -> io::Result<()>
+        ensures station { self.new.desk.station ≡ self.old.desk.station }
+        ensures setting { self.new.setting ≡ self.old.setting }
+    {
         self.desk.wait(most)
     }
 
     /// Why a message could not be sent, once.
-    pub fn take_fault(&mut self) -> Option<io::Error> {
+    pub fn take_fault(&mut self) -> Option<io::Error>
+        ensures station { self.new.desk.station ≡ self.old.desk.station }
+        ensures setting { self.new.setting ≡ self.old.setting }
+    {
         self.desk.take_fault()
     }
 
     /// Puts a line after the others.
     pub fn line<D: Display + Drop>(&mut self, what: D) -> Result<(), AllocError>
         ensures desk { self.new.desk ≡ self.old.desk }
+        ensures setting { self.new.setting ≡ self.old.setting }
     {
         write!(self.text, "{what}\n")
     }
 
     /// Takes the lines.
-    pub fn take_text(&mut self) -> Result<String, AllocError> {
+    pub fn take_text(&mut self) -> Result<String, AllocError>
+        ensures desk { self.new.desk ≡ self.old.desk }
+        ensures setting { self.new.setting ≡ self.old.setting }
+    {
         let empty = String::new(self.rt.alloc());
         Ok(mem::replace(&mut self.text, empty))
-    }
-
-    /// Says which key is which.
-    pub fn say_keys(&mut self) -> Result<(), AllocError> {
-        let (alloc, keys) = (self.rt.alloc(), &self.setting.keys);
-        let standby = key_words(alloc, keys.standby)?;
-        let go = key_words(alloc, keys.go)?;
-        let cancel = key_words(alloc, keys.cancel)?;
-        let (standby, go, cancel) = (standby.as_str(), go.as_str(), cancel.as_str());
-        self.line(format_args!(
-            "{standby} is STANDBY, {go} is GO, {cancel} is CANCEL; Ctrl-C ends it"
-        ))
-    }
-
-    /// Says what was heard and is no key.
-    pub fn say_tally(&mut self) -> Result<(), AllocError> {
-        let text = self.tally.text(self.rt.alloc())?;
-        if text.is_empty() {
-            return Ok(());
-        }
-        let text = text.as_str();
-        self.line(format_args!("heard and not taken: {text}"))
     }
 
     /// A device is opened at this moment.
     pub fn opened(&mut self, now: u64)
         ensures desk { self.new.desk ≡ self.old.desk }
+        ensures setting { self.new.setting ≡ self.old.setting }
     {
         self.parser = Parser::new();
         self.hand = self.hand.opened(now);
@@ -168,6 +155,7 @@ impl<'a, R: Files<File = File> + Net + Clock + AllocGlobal> Panel<'a, R> {
     /// A round begins at this moment.
     pub fn begin(&mut self, now: u64)
         ensures desk { self.new.desk ≡ self.old.desk }
+        ensures setting { self.new.setting ≡ self.old.setting }
     {
         self.hand = self.hand.begun(now);
     }
@@ -180,25 +168,39 @@ impl<'a, R: Files<File = File> + Net + Clock + AllocGlobal> Panel<'a, R> {
     /// A read in this round has found nothing: all that waited in the device is heard.
     pub fn emptied(&mut self)
         ensures desk { self.new.desk ≡ self.old.desk }
+        ensures setting { self.new.setting ≡ self.old.setting }
     {
         self.hand = self.hand.emptied();
     }
 
-    /// Hears bytes.
-    pub fn hear(&mut self, bytes: &[u8]) -> Result<(), AllocError> {
+    /// Hears bytes. It presses nothing but what a key means that was struck, or a command that was spoken.
+    #[tactic(auto, using(crate::proofs::StruckLemmas::struck_none, crate::proofs::StruckLemmas::struck_then))]
+    pub fn hear(&mut self, bytes: &[u8]) -> Result<(), AllocError>
+        ensures { OnlyStruck self.old.setting self.new.setting self.old.desk.station self.new.desk.station }
+    {
         for byte in bytes {
-            if let Some(heard) = self.parser.hear(*byte) {
-                self.take(&heard)?;
-            }
+            self.hear_byte(*byte)?;
         }
         Ok(())
+    }
+
+    // Hears a byte.
+    #[tactic(auto, using(crate::proofs::StruckLemmas::struck_takes, crate::proofs::StruckLemmas::struck_none))]
+    fn hear_byte(&mut self, byte: u8) -> Result<(), AllocError>
+        ensures { OnlyStruck self.old.setting self.new.setting self.old.desk.station self.new.desk.station }
+    {
+        match self.parser.hear(byte) {
+            Some(heard) => self.take(&heard),
+            None => Ok(()),
+        }
     }
 
     // Takes what is heard.
     #[tactic(auto, using(crate::proofs::PressLemmas::strikes_none_by))]
     fn take(&mut self, heard: &Heard) -> Result<(), AllocError>
-        ensures { Takes self.old.setting self.old.hand heard.now self.old.desk.station self.new.desk.station
+        ensures takes { Takes self.old.setting self.old.hand heard.now self.old.desk.station self.new.desk.station
             self.old.desk.view self.new.desk.view }
+        ensures setting { self.new.setting ≡ self.old.setting }
     {
         if let Heard::Show(show) = heard {
             return self.take_show(show);
@@ -221,6 +223,7 @@ impl<'a, R: Files<File = File> + Net + Clock + AllocGlobal> Panel<'a, R> {
     // Says that a controller is down, and was not heard to be let go since the device was opened.
     fn say_first(&mut self, passed: Passed) -> Result<(), AllocError>
         ensures desk { self.new.desk ≡ self.old.desk }
+        ensures setting { self.new.setting ≡ self.old.setting }
     {
         let words = passed.words(self.rt.alloc())?;
         let words = words.as_str();
@@ -232,6 +235,7 @@ impl<'a, R: Files<File = File> + Net + Clock + AllocGlobal> Panel<'a, R> {
     // Counts what is no key.
     fn pass(&mut self, passed: Passed) -> Result<(), AllocError>
         ensures desk { self.new.desk ≡ self.old.desk }
+        ensures setting { self.new.setting ≡ self.old.setting }
     {
         if self.tally.count(passed)? {
             let words = passed.words(self.rt.alloc())?;
@@ -243,8 +247,9 @@ impl<'a, R: Files<File = File> + Net + Clock + AllocGlobal> Panel<'a, R> {
 
     // Takes a command of show control.
     fn take_show(&mut self, show: &Show) -> Result<(), AllocError>
-        ensures { StrikesSpoken (spoken_to self.old.setting.address show.now) self.old.hand self.old.desk.station
-            self.new.desk.station self.old.desk.view self.new.desk.view }
+        ensures strikes { StrikesSpoken (spoken_to self.old.setting.address show.now) self.old.hand
+            self.old.desk.station self.new.desk.station self.old.desk.view self.new.desk.view }
+        ensures setting { self.new.setting ≡ self.old.setting }
     {
         match spoken_to(&self.setting.address, show) {
             Spoken::Intent(intent) => self.intent("show control", &intent),
@@ -263,6 +268,7 @@ impl<'a, R: Files<File = File> + Net + Clock + AllocGlobal> Panel<'a, R> {
     // Whether one press more is heard in this round.
     fn takes_finger(&mut self) -> bool
         ensures desk { self.new.desk ≡ self.old.desk }
+        ensures setting { self.new.setting ≡ self.old.setting }
     {
         let has_room = self.hand.has_room();
         if !has_room {
@@ -274,8 +280,9 @@ impl<'a, R: Files<File = File> + Net + Clock + AllocGlobal> Panel<'a, R> {
 
     // Somebody intends something, by this key.
     fn intent(&mut self, source: &str, intent: &Intent) -> Result<(), AllocError>
-        ensures { Strikes (comes_of self.old.hand self.old.desk.view intent.now) self.old.desk.station
+        ensures strikes { Strikes (comes_of self.old.hand self.old.desk.view intent.now) self.old.desk.station
             self.new.desk.station self.old.desk.view self.new.desk.view }
+        ensures setting { self.new.setting ≡ self.old.setting }
     {
         let struck = self.hand.strikes(self.desk.view(), intent);
         self.hand = self.hand.counted();
@@ -299,6 +306,7 @@ impl<'a, R: Files<File = File> + Net + Clock + AllocGlobal> Panel<'a, R> {
     // Says why an intent presses nothing.
     fn refuse(&mut self, source: &str, intent: &Intent, why: Why) -> Result<(), AllocError>
         ensures desk { self.new.desk ≡ self.old.desk }
+        ensures setting { self.new.setting ≡ self.old.setting }
     {
         let alloc = self.rt.alloc();
         let words = match trouble_words(alloc, self.desk.view(), self.setting.port)? {
@@ -313,8 +321,9 @@ impl<'a, R: Files<File = File> + Net + Clock + AllocGlobal> Panel<'a, R> {
     // Presses.
     #[tactic(auto, using(crate::proofs::PressLemmas::at_most, crate::proofs::PressLemmas::at_most_none))]
     fn press(&mut self, source: &str, press: &Press) -> Result<(), AllocError>
-        ensures { AtMost press.now self.old.desk.station self.new.desk.station self.old.desk.view
+        ensures presses { AtMost press.now self.old.desk.station self.new.desk.station self.old.desk.view
             self.new.desk.view }
+        ensures setting { self.new.setting ≡ self.old.setting }
     {
         let alloc = self.rt.alloc();
         let button = button_words(alloc, press.button, self.desk.together())?;
@@ -333,6 +342,7 @@ impl<'a, R: Files<File = File> + Net + Clock + AllocGlobal> Panel<'a, R> {
     // Notes a press that is sent.
     fn note(&mut self, button: Button, ask: u64, what: String)
         ensures desk { self.new.desk ≡ self.old.desk }
+        ensures setting { self.new.setting ≡ self.old.setting }
     {
         let passed = self.hand.passed;
         self.hand = self.hand.sent(self.desk.view(), button);
@@ -349,6 +359,7 @@ impl<'a, R: Files<File = File> + Net + Clock + AllocGlobal> Panel<'a, R> {
     // Says why a press was not sent.
     fn say_unsent(&mut self, what: &str, unsent: Unsent) -> Result<(), AllocError>
         ensures desk { self.new.desk ≡ self.old.desk }
+        ensures setting { self.new.setting ≡ self.old.setting }
     {
         match trouble_words(self.rt.alloc(), self.desk.view(), self.setting.port)? {
             Some(words) => {

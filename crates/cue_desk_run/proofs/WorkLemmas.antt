@@ -20,7 +20,9 @@ use Rattle.cue_station.specs.Memory.{IsAfter, IsKept, StepKeeps, turn_of}
 use Rattle.cue_station.specs.Stepping.{IsSame}
 use Rattle.cue_station.specs.Turns.{Turn}
 use Rattle.cue_desk_run.specs.Readings.{IsOf}
-use Rattle.cue_desk_run.specs.Working.{AreUnpressed, Hears, HearsIf, IsUnpressed, IsUntouched, OnlyLooks}
+use Rattle.cue_view.specs.declared.button.Button.{Button}
+use Rattle.cue_desk_run.specs.Working.{AreFor, AreUnpressed, Hears, HearsFor, HearsIf, IsFor, IsUnpressed, IsUntouched}
+use Rattle.cue_desk_run.specs.Working.{OnlyLooks, Stays}
 
 turns-then : (past : List Turn) (first : List Input) (steps : List Step) (more : List Input) (others : List Step)
     → length steps ≡ length first
@@ -161,4 +163,71 @@ hears_as h at wall send old mid new v v_then e f k =
       send = send;
       keeps = subst (λ (s : Station). StepKeeps old i s (record { view = v_then; send = send })) (sym e)
           (subst (λ (w : View). StepKeeps old i mid (record { view = w; send = send })) (sym f) k);
+    }
+
+-- ---- presses for a reason
+
+unpressed-for : (reason : ℕ → Button → Type 0) (h : Heard) → IsUnpressed h → IsFor reason h
+unpressed-for reason (heard.Copied c) u = tt
+unpressed-for reason (heard.Same at) u = tt
+unpressed-for reason (heard.Unread why) u = tt
+unpressed-for reason (heard.Replied ask r) u = tt
+unpressed-for reason (heard.Nobody ask) u = tt
+unpressed-for reason (heard.Pressed view b) u = absurd u
+unpressed-for reason (heard.Relay status) u = tt
+unpressed-for reason (heard.Kept kept) u = tt
+unpressed-for reason heard.Tick u = tt
+
+all-unpressed-for : (reason : ℕ → Button → Type 0) (all : List Input) → AreUnpressed all → AreFor reason all
+all-unpressed-for reason [] u = tt
+all-unpressed-for reason (i ∷ more) u = (unpressed-for reason i.heard u.0, all-unpressed-for reason more u.1)
+
+for-both : (reason : ℕ → Button → Type 0) (first more : List Input) → AreFor reason first → AreFor reason more
+    → AreFor reason (first ++ more)
+for-both reason [] more p q = q
+for-both reason (i ∷ first) more p q = (p.0, for-both reason first more p.1 q)
+
+-- it heard no press
+pub for_looks : (reason : ℕ → Button → Type 0) (old new : Station) → OnlyLooks old new → HearsFor reason old new
+for_looks reason old new looks =
+    record {
+      heard = looks.heard;
+      steps = looks.steps;
+      reasons = all-unpressed-for reason looks.heard looks.unpressed;
+      plays = looks.plays;
+    }
+
+-- it heard nothing
+pub for_none : (reason : ℕ → Button → Type 0) (s : Station) → HearsFor reason s s
+for_none reason s = for_looks reason s s (looks_none s)
+
+-- it heard this press, for which there is a reason, or could not hear it
+pub for_if : (reason : ℕ → Button → Type 0) (b : Bool) (view : ℕ) (button : Button) (old new : Station)
+    (v v_then : View) → reason view button → HearsIf b (heard.Pressed view button) old new v v_then → HearsFor reason old new
+for_if reason true view button old new v v_then why hears =
+    let i : Input = record { at = hears.at; wall = hears.wall; heard = heard.Pressed view button } in
+    let s : Step = record { view = v_then; send = hears.send } in
+    record {
+      heard = i ∷ [];
+      steps = s ∷ [];
+      reasons = (why, tt);
+      plays = plays-one old new i s hears.keeps;
+    }
+for_if reason false view button old new v v_then why hears = for_looks reason old new (looks-same old new hears.0)
+
+-- all is as it was
+pub for_stays : (reason : ℕ → Button → Type 0) (old new : Station) (v v_then : View) → Stays old new v v_then
+    → HearsFor reason old new
+for_stays reason old new v v_then stays =
+    subst (λ (s : Station). HearsFor reason old s) (sym stays.0) (for_none reason old)
+
+-- one after the other
+pub for_then : (reason : ℕ → Button → Type 0) (old mid new : Station) → HearsFor reason old mid
+    → HearsFor reason mid new → HearsFor reason old new
+for_then reason old mid new a b =
+    record {
+      heard = a.heard ++ b.heard;
+      steps = a.steps ++ b.steps;
+      reasons = for-both reason a.heard b.heard a.reasons b.reasons;
+      plays = plays-then old mid new a.heard a.steps b.heard b.steps a.plays b.plays;
     }

@@ -9,6 +9,7 @@ use Rattle.cue_station.specs.declared.station.Step.{Step}
 use Rattle.cue_station.specs.Evening.{Plays}
 use Rattle.cue_station.specs.Memory.{IsAfter, StepKeeps}
 use Rattle.cue_station.specs.Stepping.{IsSame}
+use Rattle.cue_view.specs.declared.button.Button.{Button}
 use Rattle.cue_view.specs.declared.view.View.{View}
 
 -- all is as it was
@@ -41,6 +42,22 @@ pub record OnlyLooks (old new : Station) : Type 0 where
   pub heard : List Input
   pub steps : List Step
   pub unpressed : AreUnpressed heard
+  pub plays : Plays old heard steps new
+
+-- it is no press, or one of a button of the view with this number for which there is a reason
+abbrev pub IsFor : (ℕ → Button → Type 0) → Heard → Type 0
+IsFor reason (heard.Pressed view b) = reason view b
+IsFor reason _ = Unit {0}
+
+abbrev pub AreFor : (ℕ → Button → Type 0) → List Input → Type 0
+AreFor reason [] = Unit {0}
+AreFor reason (i ∷ more) = IsFor reason i.heard × AreFor reason more
+
+-- It heard one thing after the other, and for each press of them there was a reason: its machine made a step of each.
+pub record HearsFor (reason : ℕ → Button → Type 0) (old new : Station) : Type 0 where
+  pub heard : List Input
+  pub steps : List Step
+  pub reasons : AreFor reason heard
   pub plays : Plays old heard steps new
 
 -- It has heard no press so far.

@@ -1,6 +1,6 @@
 -- What a page lets the desk hear.
 use Rattle.std.specs.Prelude.{◌≡◌, ◌⊎◌, ℕ, Bool, true, false, List, Option, None, Some}
-use Rattle.cue_desk_run.specs.Working.{HearsIf, Stays}
+use Rattle.cue_desk_run.specs.Working.{HearsFor, HearsIf, Stays}
 use Rattle.cue_request.specs.declared.identity.PageIdentity.{PageIdentity}
 use Rattle.cue_request.specs.declared.lock.Guard.{Guard}
 use Rattle.cue_request.specs.declared.request.Refusal.{Refusal}
@@ -9,6 +9,7 @@ use Rattle.cue_request.specs.Presses.{body_of}
 use Rattle.cue_request.specs.Requests.{IsCommand}
 use Rattle.cue_station.specs.declared.heard.Heard.TheVariants as heard
 use Rattle.cue_station.specs.declared.station.Station.{Station}
+use Rattle.cue_view.specs.declared.button.Button.{Button}
 use Rattle.cue_view.specs.declared.view.View.{View}
 use Rattle.cue_web.specs.declared.connection.Asking.{Asking}
 use Rattle.cue_web.specs.declared.connection.Asking.TheVariants as asking
@@ -46,6 +47,19 @@ abbrev pub Answers : Guard → ℕ → Asking → (old new : Station) → (v v_t
 Answers g now (asking.Press (Some p)) old new v v_then =
     HearsUnless (verdict_on p.button g now p.said) p old new v v_then
 Answers g now _ old new v v_then = Stays old new v v_then
+
+-- Why a press is heard: what came from a connection is a command of our own page that names this view and this button.
+pub record IsAsked (identity : PageIdentity) (view : ℕ) (b : Button) : Type 0 where
+  pub bytes : List ℕ
+  pub press : Pressed
+  pub came : IsPressIn identity bytes press
+  pub of_view : press.view ≡ view
+  pub of_button : press.button ≡ b
+
+-- Each press that the desk heard was asked, and the page is where it was.
+pub record OnlyAsked (page page_then : PageIdentity) (old new : Station) : Type 0 where
+  pub asked : HearsFor (IsAsked page) old new
+  pub identity : page_then ≡ page
 
 -- its request is awaited
 abbrev pub is_asking : Stage → Bool

@@ -1,6 +1,7 @@
 //! The connections to the page. None of them can keep the others waiting: each has a second, and if there are many
 //! the one that has waited longest gives way.
-ghost use Rattle.cue_web.specs.Serving.{Serves};
+ghost use Rattle.std.specs.Prelude.{◌≡◌};
+ghost use Rattle.cue_web.specs.Serving.{OnlyAsked, Serves};
 
 use crate::connection::Connection;
 use crate::pages::Pages;
@@ -49,8 +50,9 @@ fn serve_one<R: Files<File = File> + Net + Clock + AllocGlobal>(
     pages: &mut Pages<'_>,
     now: u64,
 )
-    ensures { Serves pages.old.identity pages.old.guard now connection.old connection.new desk.old.station
+    ensures serves { Serves pages.old.identity pages.old.guard now connection.old connection.new desk.old.station
         desk.new.station desk.old.view desk.new.view }
+    ensures identity { pages.new.identity ≡ pages.old.identity }
 {
     let Some(asking) = connection.hear(pages.identity(), now) else {
         return;
@@ -59,6 +61,20 @@ fn serve_one<R: Files<File = File> + Net + Clock + AllocGlobal>(
         Ok(answer) => connection.tell(answer, now),
         Err(AllocError) => connection.leave(),
     }
+}
+
+// The same, and goes on with its answer.
+fn serve_next<R: Files<File = File> + Net + Clock + AllocGlobal>(
+    alloc: Global,
+    connection: &mut Connection,
+    desk: &mut Desk<'_, R>,
+    pages: &mut Pages<'_>,
+    now: u64,
+)
+    ensures { OnlyAsked pages.old.identity pages.new.identity desk.old.station desk.new.station }
+{
+    serve_one(alloc, connection, desk, pages, now);
+    connection.go_on(pages.page(), now);
 }
 
 impl Connections {
@@ -97,17 +113,19 @@ impl Connections {
         true
     }
 
-    /// One round over all connections.
+    /// One round over all connections. The desk hears no press but those that were asked by one of them.
+    #[tactic(auto, using(crate::proofs::ServeLemmas::asked_none, crate::proofs::ServeLemmas::asked_then))]
     pub fn serve<R: Files<File = File> + Net + Clock + AllocGlobal>(
         &mut self,
         alloc: Global,
         desk: &mut Desk<'_, R>,
         pages: &mut Pages<'_>,
         now: u64,
-    ) {
+    )
+        ensures { OnlyAsked pages.old.identity pages.new.identity desk.old.station desk.new.station }
+    {
         for connection in self.open.iter_mut() {
-            serve_one(alloc, connection, desk, pages, now);
-            connection.go_on(pages.page(), now);
+            serve_next(alloc, connection, desk, pages, now);
         }
         self.open.retain(|connection| connection.is_here());
     }

@@ -109,13 +109,17 @@ impl<'a> Pages<'a> {
     }
 
     /// From now on the names are those of this show file.
-    pub fn put_file(&mut self, file: ShowFile) {
+    pub fn put_file(&mut self, file: ShowFile)
+        ensures identity { self.new.identity ≡ self.old.identity }
+    {
         self.beside.file = Some(file);
         self.drawn = None;
     }
 
     /// From now on this is told of the show file.
-    pub fn tell(&mut self, told: Option<String>) {
+    pub fn tell(&mut self, told: Option<String>)
+        ensures identity { self.new.identity ≡ self.old.identity }
+    {
         if self.told != told {
             self.told = told;
             self.drawn = None;
@@ -139,7 +143,9 @@ impl<'a> Pages<'a> {
         &mut self,
         desk: &Desk<'_, R>,
         alloc: Global,
-    ) -> Result<(), AllocError> {
+    ) -> Result<(), AllocError>
+        ensures identity { self.new.identity ≡ self.old.identity }
+    {
         let view = desk.view();
         if self.drawn == Some(view.number) {
             return Ok(());
@@ -161,7 +167,9 @@ impl<'a> Pages<'a> {
         &mut self,
         desk: &Desk<'_, R>,
         alloc: Global,
-    ) -> Result<String, AllocError> {
+    ) -> Result<String, AllocError>
+        ensures identity { self.new.identity ≡ self.old.identity }
+    {
         self.draw(desk, alloc)?;
         json_answer(alloc, Outcome::Done, self.text.as_str())
     }
@@ -173,7 +181,8 @@ impl<'a> Pages<'a> {
         alloc: Global,
         pressed: &Pressed,
     ) -> Result<String, AllocError>
-        ensures { HearsOnce pressed.now desk.old.station desk.new.station desk.old.view desk.new.view }
+        ensures hears { HearsOnce pressed.now desk.old.station desk.new.station desk.old.view desk.new.view }
+        ensures identity { self.new.identity ≡ self.old.identity }
     {
         if desk.press(pressed.view, pressed.button) {
             self.view_answer(desk, alloc)
@@ -190,8 +199,9 @@ impl<'a> Pages<'a> {
         pressed: &Pressed,
         now: u64,
     ) -> Result<String, AllocError>
-        ensures { HearsUnless (verdict_on pressed.now.button self.old.guard now pressed.now.said) pressed.now
+        ensures hears { HearsUnless (verdict_on pressed.now.button self.old.guard now pressed.now.said) pressed.now
             desk.old.station desk.new.station desk.old.view desk.new.view }
+        ensures identity { self.new.identity ≡ self.old.identity }
     {
         match self.guard.judge(pressed.button, now, pressed.said) {
             Some(refusal) => refused_answer(alloc, refusal),
@@ -207,8 +217,9 @@ impl<'a> Pages<'a> {
         press: &Option<Pressed>,
         now: u64,
     ) -> Result<String, AllocError>
-        ensures { Answers self.old.guard now (asking.Press press.now) desk.old.station desk.new.station
+        ensures answers { Answers self.old.guard now (asking.Press press.now) desk.old.station desk.new.station
             desk.old.view desk.new.view }
+        ensures identity { self.new.identity ≡ self.old.identity }
     {
         match press {
             Some(pressed) => self.pressed_answer(desk, alloc, pressed, now),
@@ -238,8 +249,9 @@ impl<'a> Pages<'a> {
         asking: &Asking,
         now: u64,
     ) -> Result<Answer, AllocError>
-        ensures { Answers self.old.guard now asking.now desk.old.station desk.new.station desk.old.view
+        ensures answers { Answers self.old.guard now asking.now desk.old.station desk.new.station desk.old.view
             desk.new.view }
+        ensures identity { self.new.identity ≡ self.old.identity }
     {
         let text = match asking {
             Asking::Page => return Ok(Answer::Page),

@@ -1,9 +1,10 @@
-//! What became of the presses of a panel, as lines of text.
+//! What a panel says of its keys, of what it heard, and of what became of its presses, as lines of text.
 ghost use Rattle.std.specs.Prelude.{◌≡◌};
 ghost use Rattle.cue_desk_run.specs.Working.{OnlyLooks};
 
 use crate::panel::{Panel, Pending};
 use cue_board::became_words;
+use cue_press_words::key_words;
 use cue_view::view::Became;
 use std::alloc::AllocError;
 use std::fs::{File, Files};
@@ -38,9 +39,38 @@ fn told(pending: Pending) -> Pending {
 }
 
 impl<R: Files<File = File> + Net + Clock + AllocGlobal> Panel<'_, R> {
+    /// Says which key is which.
+    pub fn say_keys(&mut self) -> Result<(), AllocError>
+        ensures desk { self.new.desk ≡ self.old.desk }
+        ensures setting { self.new.setting ≡ self.old.setting }
+    {
+        let (alloc, keys) = (self.rt.alloc(), &self.setting.keys);
+        let standby = key_words(alloc, keys.standby)?;
+        let go = key_words(alloc, keys.go)?;
+        let cancel = key_words(alloc, keys.cancel)?;
+        let (standby, go, cancel) = (standby.as_str(), go.as_str(), cancel.as_str());
+        self.line(format_args!(
+            "{standby} is STANDBY, {go} is GO, {cancel} is CANCEL; Ctrl-C ends it"
+        ))
+    }
+
+    /// Says what was heard and is no key.
+    pub fn say_tally(&mut self) -> Result<(), AllocError>
+        ensures desk { self.new.desk ≡ self.old.desk }
+        ensures setting { self.new.setting ≡ self.old.setting }
+    {
+        let text = self.tally.text(self.rt.alloc())?;
+        if text.is_empty() {
+            return Ok(());
+        }
+        let text = text.as_str();
+        self.line(format_args!("heard and not taken: {text}"))
+    }
+
     /// Hears the controller and the store, and says what became of a press. It presses nothing.
     pub fn round(&mut self) -> io::Result<()>
-        ensures { OnlyLooks self.old.desk.station self.new.desk.station }
+        ensures looks { OnlyLooks self.old.desk.station self.new.desk.station }
+        ensures setting { self.new.setting ≡ self.old.setting }
     {
         self.desk.round()?;
         self.say_pending()?;
@@ -61,6 +91,7 @@ impl<R: Files<File = File> + Net + Clock + AllocGlobal> Panel<'_, R> {
     // Says what became of a press.
     fn say_became(&mut self, what: &str, became: Became) -> Result<(), AllocError>
         ensures desk { self.new.desk ≡ self.old.desk }
+        ensures setting { self.new.setting ≡ self.old.setting }
     {
         let words = became_words(self.rt.alloc(), became, self.setting.port)?;
         let words = words.as_str();
@@ -71,6 +102,7 @@ impl<R: Files<File = File> + Net + Clock + AllocGlobal> Panel<'_, R> {
     // end is told.
     fn say_press(&mut self, pending: Pending) -> Result<Option<Pending>, AllocError>
         ensures desk { self.new.desk ≡ self.old.desk }
+        ensures setting { self.new.setting ≡ self.old.setting }
     {
         let Some(became) = self.became(pending.ask) else {
             return Ok(Some(pending));
@@ -91,6 +123,7 @@ impl<R: Files<File = File> + Net + Clock + AllocGlobal> Panel<'_, R> {
     // Says what became of the press before the newest one, and of that.
     fn say_pending(&mut self) -> Result<(), AllocError>
         ensures desk { self.new.desk ≡ self.old.desk }
+        ensures setting { self.new.setting ≡ self.old.setting }
     {
         if let Some(before) = self.before.take() {
             self.before = self.say_press(before)?;
@@ -108,6 +141,7 @@ impl<R: Files<File = File> + Net + Clock + AllocGlobal> Panel<'_, R> {
     // Says what was dropped.
     fn say_dropped(&mut self) -> Result<(), AllocError>
         ensures desk { self.new.desk ≡ self.old.desk }
+        ensures setting { self.new.setting ≡ self.old.setting }
     {
         if self.waited > 0 && self.hand.settling.is_over() {
             let waited = mem::replace(&mut self.waited, 0);

@@ -1,4 +1,7 @@
 //! The command `web`: the board with buttons, served to a browser on this machine.
+ghost use Rattle.std.specs.Prelude.{◌≡◌};
+ghost use Rattle.cue_web.specs.Serving.{OnlyAsked};
+
 use super::locking::lock_word;
 use super::opening::open_desk;
 use super::renewing::{Begun, Renewed, begin};
@@ -49,7 +52,10 @@ fn draw_token<R: RandomSource + Eprint + AllocGlobal>(rt: &R) -> Result<String, 
 
 impl<R: Files<File = File> + Net + Clock + Eprint + AllocGlobal> Server<'_, R> {
     // Looks at the show file, and shows it if it is new.
-    fn renew(&mut self) -> io::Result<()> {
+    fn renew(&mut self) -> io::Result<()>
+        ensures desk { self.new.desk ≡ self.old.desk }
+        ensures identity { self.new.pages.identity ≡ self.old.pages.identity }
+    {
         let Some(renewed) = &mut self.renewed else {
             return Ok(());
         };
@@ -60,7 +66,10 @@ impl<R: Files<File = File> + Net + Clock + Eprint + AllocGlobal> Server<'_, R> {
     }
 
     // Tells of the show file. If memory is short, what is told of it stays.
-    fn tell(&mut self) -> io::Result<()> {
+    fn tell(&mut self) -> io::Result<()>
+        ensures desk { self.new.desk ≡ self.old.desk }
+        ensures identity { self.new.pages.identity ≡ self.old.pages.identity }
+    {
         let Some(renewed) = &self.renewed else {
             return Ok(());
         };
@@ -73,7 +82,11 @@ impl<R: Files<File = File> + Net + Clock + Eprint + AllocGlobal> Server<'_, R> {
 
     // Looks at the world first, if this program was held up: what it knows is old, and a page would be told that it is
     // of now.
-    fn wake(&mut self) -> io::Result<()> {
+    #[tactic(auto, using(cue_web::proofs::ServeLemmas::asked_looks, cue_web::proofs::ServeLemmas::asked_none))]
+    fn wake(&mut self) -> io::Result<()>
+        ensures { OnlyAsked self.old.pages.identity self.new.pages.identity self.old.desk.station
+            self.new.desk.station }
+    {
         let now = self.desk.now()?;
         let is_late = now.saturating_sub(self.last) > HELD_UP;
         self.last = now;
@@ -83,26 +96,62 @@ impl<R: Files<File = File> + Net + Clock + Eprint + AllocGlobal> Server<'_, R> {
         Ok(())
     }
 
-    // One round: who presses is heard first.
-    fn round(&mut self, connections: &mut Connections) -> io::Result<()> {
-        self.wake()?;
+    // Hears who presses. Answers whether more of them wait.
+    #[tactic(auto, using(cue_web::proofs::ServeLemmas::asked_none))]
+    fn hear(&mut self, connections: &mut Connections) -> io::Result<bool>
+        ensures { OnlyAsked self.old.pages.identity self.new.pages.identity self.old.desk.station
+            self.new.desk.station }
+    {
         let alloc = self.rt.alloc();
         let now = self.desk.now()?;
         let is_waited_for = connections.admit(alloc, self.desk.registry(), now);
         connections.serve(alloc, &mut self.desk, &mut self.pages, now);
+        Ok(is_waited_for)
+    }
+
+    // Looks at the world, and at the show file.
+    #[tactic(auto, using(cue_web::proofs::ServeLemmas::asked_looks))]
+    fn look(&mut self) -> io::Result<()>
+        ensures { OnlyAsked self.old.pages.identity self.new.pages.identity self.old.desk.station
+            self.new.desk.station }
+    {
         self.desk.round()?;
-        self.renew()?;
+        self.renew()
+    }
+
+    // One round: who presses is heard first. Answers whether more of them wait.
+    fn round(&mut self, connections: &mut Connections) -> io::Result<bool>
+        ensures { OnlyAsked self.old.pages.identity self.new.pages.identity self.old.desk.station
+            self.new.desk.station }
+    {
+        self.wake()?;
+        let is_waited_for = self.hear(connections)?;
+        self.look()?;
+        Ok(is_waited_for)
+    }
+
+    // One round, and what went wrong in it; then it waits until something comes.
+    #[tactic(auto, using(cue_web::proofs::ServeLemmas::asked_then, cue_web::proofs::ServeLemmas::asked_same))]
+    fn go_on(&mut self, connections: &mut Connections) -> io::Result<()>
+        ensures { OnlyAsked self.old.pages.identity self.new.pages.identity self.old.desk.station
+            self.new.desk.station }
+    {
+        let is_waited_for = self.round(connections)?;
+        say_fault(self.rt, self.desk.take_fault());
+        say_loss(self.rt, self.desk.take_loss());
         self.desk.wait(if is_waited_for { 0 } else { PAUSE })
     }
 
-    // Serves until a signal ends it.
-    fn serve(&mut self, connections: &mut Connections) -> Result<(), Ending> {
+    // Serves until a signal ends it. Each press that the desk hears was asked by a request of our own page.
+    #[tactic(auto, using(cue_web::proofs::ServeLemmas::asked_then, cue_web::proofs::ServeLemmas::asked_none))]
+    fn serve(&mut self, connections: &mut Connections) -> Result<(), Ending>
+        ensures { OnlyAsked self.old.pages.identity self.new.pages.identity self.old.desk.station
+            self.new.desk.station }
+    {
         for _ in 0..u64::MAX {
-            if let Err(why) = self.round(connections) {
+            if let Err(why) = self.go_on(connections) {
                 return Err(failed(self.rt, &why));
             }
-            say_fault(self.rt, self.desk.take_fault());
-            say_loss(self.rt, self.desk.take_loss());
         }
         Ok(())
     }

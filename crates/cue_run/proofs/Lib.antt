@@ -1,5 +1,7 @@
 mod LivesLemmas
+mod MomentLemmas
 mod OfferLemmas
 mod RoundLemmas
 mod RunLemmas
+mod ThroughLemmas
 mod WorkLemmas

@@ -2,15 +2,19 @@
 use Rattle.std.proofs.Common.{ℕ, ◌+◌, ◌≤◌, List, [], ◌∷◌, ◌++◌, length, Option, Some, None, refl, ◌∙◌, arith}
 use Rattle.std.proofs.Common.{length-append, append_assoc, append-nil, Bool, true, false, Result, Ok, Err, IsTrue}
 use Rattle.cue_disk.specs.declared.disk.Disk.{Ghosts}
+use Rattle.cue_keeper.specs.declared.keeper.Keeper.{Keeper}
 use Rattle.cue_engine.specs.declared.engine.Engine.{Engine}
 use Rattle.cue_engine.specs.Given.{Input}
 use Rattle.cue_engine.specs.Taking.{IsOffered}
 use Rattle.cue_engine.specs.Observed.{keeper_of, has_room, HasRoomForAll}
-use Rattle.cue_engine.specs.Sources.{Answer, comes, fails, GaveAll}
+use Rattle.cue_engine.specs.Sources.{Answer, comes, ends, fails, GaveAll}
 use Rattle.cue_run.specs.declared.turns.RunFault.{RunFault}
 use Rattle.cue_run.specs.declared.turns.RunFault.TheVariants as fault
+use Rattle.cue_run.specs.declared.groups.offering.Stop.{Stop}
+use Rattle.cue_run.specs.declared.groups.offering.Stop.TheVariants as stop
 use Rattle.cue_run.specs.Running.{given_answers}
 use Rattle.cue_run.specs.Grouping.{StaysOffered, HasOffered, CutShort, Gathered, OfferedNext, answers_beside}
+use Rattle.cue_run.specs.Grouping.{StoppedAtFirst}
 use Rattle.cue_run.proofs.RunLemmas.{gave_none, gave_all_more, gave_join}
 
 module _ {D : Type 0} {disk : Ghosts D} where
@@ -88,3 +92,12 @@ module _ {D : Type 0} {disk : Ghosts D} where
           (fails ∷ [], omega arith, omega (arith, few, group.offered.number), cut)
       after_them (Some (fault.Engine f)) few cut =
           (comes cut.0.0.0 cut.0.0.1 ∷ [], omega arith, omega (arith, few, group.offered.number), cut.0.1)
+
+  -- the answer that came where nothing was offered
+  pub came_none : (size : ℕ) (keeper : Keeper D disk) (left left_then : Option (List Answer)) (why : Stop)
+      → StoppedAtFirst size why keeper left left_then
+      → (after : List Answer) × (length after ≤ 1) × GaveAll size left after left_then
+  came_none size keeper left left_then stop.Ended is = (ends ∷ [], omega arith, is)
+  came_none size keeper left left_then (stop.Fault fault.Source) is = (fails ∷ [], omega arith, is)
+  came_none size keeper left left_then (stop.Fault (fault.Engine f)) is =
+      (comes is.0.0.0 is.0.0.1 ∷ [], omega arith, is.0.1)

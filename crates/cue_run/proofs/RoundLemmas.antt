@@ -1,7 +1,7 @@
 -- One round, and a run of rounds.
 use Rattle.std.specs.Prelude.{◌⊎◌}
-use Rattle.std.proofs.Common.{◌≡◌, ℕ, ◌+◌, ◌-◌, ◌^◌, ◌≤◌, List, [], length, min, Option, Some, None, Ok, refl, ap}
-use Rattle.std.proofs.Common.{◌∙◌, inl, inr, arith, true≢false, sym, append-nil, IsTrue}
+use Rattle.std.proofs.Common.{◌≡◌, ℕ, ◌+◌, ◌-◌, ◌^◌, ◌≤◌, List, [], ◌++◌, length, min, Option, Some, None, Ok, refl, ap}
+use Rattle.std.proofs.Common.{◌∙◌, inl, inr, arith, true≢false, sym, append-nil, IsTrue, length-append, subst}
 use Rattle.cue_disk.specs.declared.disk.Disk.{Ghosts}
 use Rattle.cue_keeper.specs.declared.fault.Fault.TheVariants.{Disk}
 use Rattle.cue_keeper.specs.Accepting.{Accepts}
@@ -11,18 +11,23 @@ use Rattle.cue_engine.specs.Groups.{batches_given}
 use Rattle.cue_engine.specs.Taking.{IsOffered}
 use Rattle.cue_engine.specs.Observed.{keeper_of, state_of, queue_of, offered_of, offered_sends_of, has_room}
 use Rattle.cue_engine.specs.Wires.{Handed, AllHanded}
-use Rattle.cue_engine.specs.Sources.{Answer}
+use Rattle.cue_engine.specs.Sources.{Answer, GaveAll}
+use Rattle.cue_engine.specs.Given.{Input}
+use Rattle.cue_engine.specs.Lives.{Life, RunsWith, view_of}
 use Rattle.cue_run.specs.declared.turns.RunFault.{RunFault}
 use Rattle.cue_run.specs.declared.turns.RunFault.TheVariants as fault
 use Rattle.cue_run.specs.declared.groups.round.Round.{Round}
 use Rattle.cue_run.specs.declared.groups.offering.Stop.{Stop}
 use Rattle.cue_run.specs.declared.groups.offering.Stop.TheVariants as stop
-use Rattle.cue_run.specs.Running.{Works, EndedBy, Ran}
+use Rattle.cue_run.specs.Running.{given_answers, HasRun, Works, EndedBy, Ran}
+use Rattle.cue_run.specs.Through.{GoesInSteps, RunsThrough}
 use Rattle.cue_run.specs.Grouping.{StaysOffered, StoppedAtFirst, OfferedGroup, TookGroup, LostGroup}
-use Rattle.cue_run.specs.Grouping.{StoppedBy, HasRound, RanSoFar, fault_of}
-use Rattle.cue_run.proofs.OfferLemmas.{came_in_turn}
-use Rattle.cue_run.proofs.RunLemmas.{gave_none, group_has_run, none_has_run, runs_join}
+use Rattle.cue_run.specs.Grouping.{StoppedBy, HasRound, TookAllOrNone, WentThrough, RanSoFar, fault_of}
+use Rattle.cue_run.proofs.OfferLemmas.{came_in_turn, came_none}
+use Rattle.cue_run.proofs.RunLemmas.{gave_none, group_has_run, has_run_as_group, none_has_run, runs_join, came_join}
+use Rattle.cue_run.proofs.ThroughLemmas.{nothing_called, went_none, went_more, ends_through}
 use Rattle.cue_run.proofs.WorkLemmas.{keeps_join, works_join, refuses_join, works_on, worked, keeps_group, works_still}
+use Rattle.cue_run.proofs.WorkLemmas.{works_itself}
 use Rattle.cue_run.proofs.WorkLemmas.{refuses_group, rests_group, stopped_by_cut, stopped_at_first}
 
 -- there is room for one input where none was offered
@@ -48,10 +53,12 @@ module _ {D : Type 0} {disk : Ghosts D}
       rw (is_offered.batches, offered.keeper) at took.accepts in
       let works = works_on accepts in
       let unbroken = worked accepts in
+      let came = came_in_turn group.0 group.2 in
+      let taken = group_has_run offered.inputs number offered.gave accepts.state
+      (rw (is_offered.sends, offered.keeper) at took.handed) in
       record {
         mid = gathered.mid;
-        taken = group_has_run offered.inputs number offered.gave accepts.state
-            (rw (is_offered.sends, offered.keeper) at took.handed);
+        taken = taken.0;
         why = rw took.stop (stopped_by_cut now size room gathered.mid left_then one works cut gathered.cut);
         at_most = omega (arith, took.turns, group.2);
         some = λ _. omega (arith, took.turns, group.1);
@@ -59,6 +66,12 @@ module _ {D : Type 0} {disk : Ghosts D}
         rests = λ broken. absurd (true≢false (sym broken ∙ unbroken));
         keeps = works.keeps;
         works = λ _. works;
+        group = offered.inputs;
+        after = came.0;
+        one_more = came.1;
+        came = came.3;
+        moments = accepts.pair.any_moment;
+        became = inl (taken.1, works);
       }
 
   -- its commit was refused
@@ -71,9 +84,10 @@ module _ {D : Type 0} {disk : Ghosts D}
       let came = came_in_turn group.0 group.2 in
       let accepts : Accepts (batches_given (state_of old) offered.inputs) (Some lost.why) (keeper_of old)
       (keeper_of new) = rw (is_offered.batches, offered.keeper) at lost.accepts in
+      let taken = none_has_run lost.turns lost.unsent accepts.state lost.told_same in
       record {
         mid = left;
-        taken = none_has_run lost.turns lost.unsent accepts.state lost.told_same;
+        taken = taken.0;
         why = rw lost.stop (refuses_group now offered.inputs came.0 works some came.1 came.2 came.3 accepts
             (lost.not_full (group.3 (has_room_first none))));
         at_most = omega (arith, lost.turns);
@@ -82,6 +96,12 @@ module _ {D : Type 0} {disk : Ghosts D}
         rests = rests_group accepts;
         keeps = keeps_group accepts;
         works = λ other. works_still works accepts (λ is. other (rw (← is) lost.stop));
+        group = offered.inputs;
+        after = came.0;
+        one_more = came.1;
+        came = came.3;
+        moments = accepts.pair.any_moment;
+        became = inr (taken.1, lost.told_same, (λ goes_on. let stops = lost.stop in cc));
       }
 
   -- either
@@ -103,9 +123,11 @@ module _ {D : Type 0} {disk : Ghosts D} where
       let still : Works (keeper_of old) (keeper_of new) = rw stays.keeper works in
       let turns = ap (λ (r : Round). r.turns) none in
       let stop = ap (λ (r : Round). r.stop) none in
+      let taken = none_has_run turns (ap (λ (r : Round). r.unsent) none) (ap kept.state_of stays.keeper) refl in
+      let came = came_none size (keeper_of old) left left_then why is in
       record {
         mid = left;
-        taken = none_has_run turns (ap (λ (r : Round). r.unsent) none) (ap kept.state_of stays.keeper) refl;
+        taken = taken.0;
         why = rw stop (stopped_at_first now size room left left_then one still why is);
         at_most = omega (arith, turns);
         some = λ goes_on. cc;
@@ -113,6 +135,12 @@ module _ {D : Type 0} {disk : Ghosts D} where
         rests = λ _. ap kept.pair_of stays.keeper;
         keeps = still.keeps;
         works = λ _. still;
+        group = [];
+        after = came.0;
+        one_more = came.1;
+        came = came.2;
+        moments = rw stays.keeper (nothing_called now (keeper_of old) works);
+        became = inr (taken.1, refl, (λ goes_on. cc));
       }
 
   -- the engine rested before it
@@ -120,17 +148,28 @@ module _ {D : Type 0} {disk : Ghosts D} where
       {told told_then : Option (List Handed)} → keeper_of mid ≡ keeper_of old
       → HasRound size room round mid new left left_then told told_then
       → HasRound size room round old new left left_then told told_then
-  after_rest same round = record {
-    mid = round.mid;
-    taken = rw same at round.taken;
-    why = rw same at round.why;
-    at_most = round.at_most;
-    some = round.some;
-    none_taken = rw same at round.none_taken;
-    rests = rw same at round.rests;
-    keeps = rw same at round.keeps;
-    works = rw same at round.works;
-  }
+  after_rest {size} {round = round} {old} {new = new} {left} {told = told} {told_then} same round_is =
+      let taken : (run : HasRun size left (state_of old) [] told round.turns round.unsent round_is.mid (state_of new)
+      told_then) × (run.inputs ≡ round_is.taken.inputs) = rw (← same) (round_is.taken, refl) in
+      let B : List (ℕ × Input) → Type 0 =
+      λ is. TookAllOrNone round_is.group is round.stop (keeper_of old) (keeper_of new) told told_then in
+      record {
+        mid = round_is.mid;
+        taken = taken.0;
+        why = rw same at round_is.why;
+        at_most = round_is.at_most;
+        some = round_is.some;
+        none_taken = rw same at round_is.none_taken;
+        rests = rw same at round_is.rests;
+        keeps = rw same at round_is.keeps;
+        works = rw same at round_is.works;
+        group = round_is.group;
+        after = round_is.after;
+        one_more = round_is.one_more;
+        came = round_is.came;
+        moments = rw same at round_is.moments;
+        became = subst B (sym taken.1) (rw same at round_is.became);
+      }
 
   -- nothing is offered after it either
   pub none_offered : {old new : Engine D disk}
@@ -144,7 +183,8 @@ module _ {D : Type 0} {disk : Ghosts D} where
   -- ---- rounds in order
 
   -- what was offered before the run was withdrawn, and what was owed was handed over
-  pub begun : {size unsent : ℕ} {old mid new : Engine D disk} {left : Option (List Answer)}
+  pub begun : ((x : D) → disk.is_honest x → disk.held_at x (disk.moment x) ≡ disk.held x)
+      → {size unsent : ℕ} {old mid new : Engine D disk} {left : Option (List Answer)}
       {told told_then : Option (List Handed)}
       → unsent ≤ 2 ^ 64 - 1
       → Works (keeper_of old) (keeper_of new)
@@ -155,7 +195,7 @@ module _ {D : Type 0} {disk : Ghosts D} where
       → (offered_of new ≡ offered_of mid) × (offered_sends_of new ≡ offered_sends_of mid)
       → queue_of new ≡ []
       → RanSoFar size 0 unsent old new left left told told_then
-  begun {size} {unsent} {old} {left = left} fits works same owed none handed offered emptied = record {
+  begun now {size} {unsent} {old} {mid} {new} {left} fits works same owed none handed offered emptied = record {
     taken = record {
       inputs = [];
       gave = gave_none size left;
@@ -170,6 +210,7 @@ module _ {D : Type 0} {disk : Ghosts D} where
     rests = λ _. ap kept.pair_of same;
     emptied = emptied;
     dropped = none_offered offered none;
+    through = went_none old new same (nothing_called now (keeper_of old) (rw same at works)) (rw owed at handed);
   }
 
   -- it ended after its last round, or without one
@@ -191,24 +232,57 @@ module _ {D : Type 0} {disk : Ghosts D} where
     works = λ _. run.works;
   }
 
-module _ {D : Type 0} {disk : Ghosts D} {size room turns unsent all : ℕ} {round : Round} {first old new : Engine D disk}
+  -- and what it went through
+  pub through_ended : ((x : D) → disk.is_honest x → disk.held_at x (disk.moment x) ≡ disk.held x)
+      → {size turns unsent : ℕ} {old new : Engine D disk} {left mid : Option (List Answer)}
+      {told told_then : Option (List Handed)} (left_then : Option (List Answer))
+      → RanSoFar size turns unsent old new left mid told told_then → left_then ≡ mid
+      → RunsThrough size turns old new left left_then told told_then
+  through_ended now {size} {old = old} {new = new} {left} {mid} left_then run same = λ life runs.
+      let still = nothing_called now (keeper_of new) (works_itself run.works) in
+      let none : GaveAll size mid [] left_then = rw same (gave_none size mid) in
+      ends_through (run.through life runs) run.works [] new still [] refl refl run.taken.number (omega arith)
+      (came_join size left mid left_then run.taken.inputs [] [] run.taken.gave none)
+
+module _ {D : Type 0} {disk : Ghosts D}
+    (now : (x : D) → disk.is_honest x → disk.held_at x (disk.moment x) ≡ disk.held x)
+    {size room turns unsent all : ℕ} {round : Round} {first old new : Engine D disk}
     {left mid left_then : Option (List Answer)} {told mid_told told_then : Option (List Handed)}
     (counts : all ≡ min (unsent + round.unsent) (2 ^ 64 - 1))
     (run : RanSoFar size turns unsent first old left mid told mid_told)
     (one : HasRound size room round old new mid left_then mid_told told_then) (emptied : queue_of new ≡ []) where
+  -- its group was taken
+  with_group : (one.taken.inputs ≡ one.group) × Works (keeper_of old) (keeper_of new) → (life : Life)
+      → RunsWith life (state_of first) (queue_of first)
+      → WentThrough (run.taken.inputs ++ one.group) first new told told_then life
+  with_group took life runs =
+      let as_group = has_run_as_group one.taken one.group took.0 in
+      went_more (run.through life runs) run.works one.group new one.moments took.1
+      (nothing_called now (keeper_of new) (works_itself took.1)) as_group.0 as_group.1
+
   -- a round more was taken, and a next one may follow
   pub round_more : round.stop ≡ None → IsOffered [] new
       → RanSoFar size (turns + round.turns) all first new left left_then told told_then
   round_more none dropped =
       let same : left_then ≡ one.mid = rw none at one.why in
+      let taken : (joined : HasRun size left (state_of first) (queue_of first) told (turns + round.turns) all left_then
+      (state_of new) told_then) × (joined.inputs ≡ run.taken.inputs ++ one.taken.inputs) =
+      rw same (runs_join counts run.taken one.taken) in
       record {
-        taken = rw same (runs_join counts run.taken one.taken);
+        taken = taken.0;
         works = works_join run.works (one.works (λ failed. cc));
         none_taken = λ broken. omega (arith, run.none_taken broken, one.none_taken (run.works.broken ∙ broken));
         rests = λ broken. one.rests (run.works.broken ∙ broken) ∙ run.rests broken;
         emptied = emptied;
         dropped = dropped;
+        through = λ life runs. rw taken.1 (went_on one.became life runs);
       }
+    where
+      went_on : TookAllOrNone one.group one.taken.inputs round.stop (keeper_of old) (keeper_of new) mid_told told_then
+          → (life : Life) → RunsWith life (state_of first) (queue_of first)
+          → WentThrough (run.taken.inputs ++ one.taken.inputs) first new told told_then life
+      went_on (inl took) life runs = rw took.0 (with_group took life runs)
+      went_on (inr lost) life runs = absurd (lost.2 none)
 
   -- it was the last one
   pub round_last : (why : Stop) (cause : Option RunFault) {most asked : ℕ} → round.stop ≡ Some why
@@ -217,7 +291,7 @@ module _ {D : Type 0} {disk : Ghosts D} {size room turns unsent all : ℕ} {roun
       left_then told told_then
   round_last why cause {most} {asked} stops causes within fits = record {
     mid = one.mid;
-    taken = runs_join counts run.taken one.taken;
+    taken = (runs_join counts run.taken one.taken).0;
     why = rw causes (ended_as why (rw stops at one.why));
     at_most = omega (arith, fits, one.at_most);
     none_taken = λ broken. omega (arith, run.none_taken broken, one.none_taken (run.works.broken ∙ broken));
@@ -235,3 +309,30 @@ module _ {D : Type 0} {disk : Ghosts D} {size room turns unsent all : ℕ} {roun
       ended_as stop.Ended is = inr is
       ended_as (stop.Fault fault.Source) is = is
       ended_as (stop.Fault (fault.Engine f)) is = inr (refuses_join within run.works is)
+
+  -- and what the run went through
+  pub through_last : RunsThrough size (turns + round.turns) first new left left_then told told_then
+  through_last life runs = ended_with one.became
+    where
+      came : GaveAll size left (given_answers (run.taken.inputs ++ one.group) ++ one.after) left_then
+      came = came_join size left mid left_then run.taken.inputs one.group one.after run.taken.gave one.came
+
+      ended_with : TookAllOrNone one.group one.taken.inputs round.stop (keeper_of old) (keeper_of new) mid_told
+          told_then
+          → GoesInSteps size (turns + round.turns) left left_then (view_of first) (view_of new) told told_then life
+          (state_of new)
+      ended_with (inl took) =
+          let inputs : List (ℕ × Input) = run.taken.inputs ++ one.group in
+          let same : inputs ++ [] ≡ inputs = append-nil inputs in
+          let number : length one.group ≡ round.turns =
+          ap (λ (is : List (ℕ × Input)). length is) (sym took.0) ∙ one.taken.number in
+          ends_through (with_group took life runs) (works_join run.works took.1) [] new
+          (nothing_called now (keeper_of new) (works_itself took.1)) one.after refl refl
+          (omega (arith, length-append run.taken.inputs one.group, run.taken.number, number)) one.one_more
+          (rw same came)
+      ended_with (inr lost) =
+          let number : round.turns ≡ 0 =
+          sym one.taken.number ∙ ap (λ (is : List (ℕ × Input)). length is) lost.0 in
+          let none = has_run_as_group one.taken [] lost.0 in
+          ends_through (run.through life runs) run.works one.group new one.moments one.after none.0 lost.1
+          (omega (arith, run.taken.number, number)) one.one_more came

@@ -1,6 +1,6 @@
 -- What was taken by a run, and then by another; and what a group is as a run.
 use Rattle.std.proofs.Common.{◌≡◌, ℕ, ◌+◌, ◌-◌, ◌^◌, List, [], ◌∷◌, ◌++◌, length, take, drop, min, Option, Some, None}
-use Rattle.std.proofs.Common.{refl, sym, ap, ◌∙◌, arith, length-append, append_assoc}
+use Rattle.std.proofs.Common.{refl, sym, ap, ◌∙◌, arith, length-append, append_assoc, subst}
 use Rattle.std.proofs.lemmas.List.{map-append}
 use Rattle.cue_core.specs.State.{ShowState}
 use Rattle.cue_core.specs.Steps.{after_events}
@@ -93,27 +93,30 @@ story_join s (i ∷ is) js =
 pub runs_join : {size turns unsent more mores all : ℕ} {left mid left_then : Option (List Answer)}
     {s mid_s s_then : ShowState} {owed : List (ℕ × List ℕ)} {told mid_told told_then : Option (List Handed)}
     → all ≡ min (unsent + mores) (2 ^ 64 - 1)
-    → HasRun size left s owed told turns unsent mid mid_s mid_told
-    → HasRun size mid mid_s [] mid_told more mores left_then s_then told_then
-    → HasRun size left s owed told (turns + more) all left_then s_then told_then
+    → (h : HasRun size left s owed told turns unsent mid mid_s mid_told)
+    → (k : HasRun size mid mid_s [] mid_told more mores left_then s_then told_then)
+    → (run : HasRun size left s owed told (turns + more) all left_then s_then told_then)
+    × (run.inputs ≡ h.inputs ++ k.inputs)
 runs_join {size = size} {left = left} {mid = mid} {left_then = left_then} {s = s} {owed = owed} counts h k =
     let next : ShowState = (story s h.inputs).state in
     let joined = story_join s h.inputs k.inputs in
-    let then = rw h.state at k.handed in
-    record {
-      inputs = h.inputs ++ k.inputs;
-      gave = gave_join size left mid left_then h.inputs k.inputs h.gave k.gave;
-      number = omega (arith, h.number, k.number, length-append h.inputs k.inputs);
-      state = rw (joined.0, ← h.state) k.state;
-      refused = h.refused + k.refused;
-      handed = rw (
-        joined.1,
-        map-append datagram (story s h.inputs).sends (story next k.inputs).sends,
-        ← append_assoc owed (datagrams (story s h.inputs).sends) (datagrams (story next k.inputs).sends),
-      )
-          (all_handed_both h.handed then);
-      counted = omega (arith, counts, h.counted, k.counted);
-    }
+    let then = rw h.state at k.handed in (
+      record {
+        inputs = h.inputs ++ k.inputs;
+        gave = gave_join size left mid left_then h.inputs k.inputs h.gave k.gave;
+        number = omega (arith, h.number, k.number, length-append h.inputs k.inputs);
+        state = rw (joined.0, ← h.state) k.state;
+        refused = h.refused + k.refused;
+        handed = rw (
+          joined.1,
+          map-append datagram (story s h.inputs).sends (story next k.inputs).sends,
+          ← append_assoc owed (datagrams (story s h.inputs).sends) (datagrams (story next k.inputs).sends),
+        )
+            (all_handed_both h.handed then);
+        counted = omega (arith, counts, h.counted, k.counted);
+      },
+      refl,
+    )
 
 -- one group
 pub group_has_run : (inputs : List (ℕ × Input)) {size count unsent : ℕ} {s s_then : ShowState}
@@ -122,27 +125,59 @@ pub group_has_run : (inputs : List (ℕ × Input)) {size count unsent : ℕ} {s 
     → GaveAll size left (given_answers inputs) mid
     → s_then ≡ folded_all s (batches_given s inputs)
     → HandedCounted told (datagrams (sends_given s inputs)) unsent told_then
-    → HasRun size left s [] told count unsent mid s_then told_then
-group_has_run inputs {s = s} number gave same handed = record {
-  inputs = inputs;
-  gave = gave;
-  number = number;
-  state = same ∙ sym (is_a_run s inputs).0;
-  refused = handed.refused;
-  handed = rw (is_a_run s inputs).2 handed.handed;
-  counted = handed.counted;
-}
+    → (run : HasRun size left s [] told count unsent mid s_then told_then) × (run.inputs ≡ inputs)
+group_has_run inputs {s = s} number gave same handed = (
+  record {
+    inputs = inputs;
+    gave = gave;
+    number = number;
+    state = same ∙ sym (is_a_run s inputs).0;
+    refused = handed.refused;
+    handed = rw (is_a_run s inputs).2 handed.handed;
+    counted = handed.counted;
+  },
+  refl,
+)
+
+-- and a run as one group
+pub has_run_as_group : {size turns unsent : ℕ} {left left_then : Option (List Answer)} {s s_then : ShowState}
+    {told told_then : Option (List Handed)}
+    (run : HasRun size left s [] told turns unsent left_then s_then told_then) (group : List (ℕ × Input))
+    → run.inputs ≡ group
+    → (s_then ≡ folded_all s (batches_given s group))
+    × AllHanded told (datagrams (sends_given s group)) run.refused told_then
+has_run_as_group {s = s} {s_then = s_then} {told = told} {told_then = told_then} run group same =
+    let S : List (ℕ × Input) → Type 0 = λ is. s_then ≡ folded_all s (batches_given s is) in
+    let H : List (ℕ × Input) → Type 0 =
+    λ is. AllHanded told (datagrams (sends_given s is)) run.refused told_then in
+    let M : List (ℕ × Send) → Type 0 = λ ms. AllHanded told (datagrams ms) run.refused told_then in (
+      subst S same (run.state ∙ (is_a_run s run.inputs).0),
+      subst H same (subst M (is_a_run s run.inputs).2 run.handed),
+    )
 
 -- no input was taken
 pub none_has_run : {size turns unsent : ℕ} {left : Option (List Answer)} {s s_then : ShowState}
     {told told_then : Option (List Handed)} → turns ≡ 0 → unsent ≡ 0 → s_then ≡ s → told_then ≡ told
-    → HasRun size left s [] told turns unsent left s_then told_then
-none_has_run {size = size} {left = left} {told = told} no_turns all_sent same_s same_told = record {
-  inputs = [];
-  gave = gave_none size left;
-  number = sym no_turns;
-  state = same_s;
-  refused = 0;
-  handed = rw same_told (handed_first 0 (omega arith) (handed_none told []));
-  counted = all_sent;
-}
+    → (run : HasRun size left s [] told turns unsent left s_then told_then) × (run.inputs ≡ [])
+none_has_run {size = size} {left = left} {told = told} no_turns all_sent same_s same_told = (
+  record {
+    inputs = [];
+    gave = gave_none size left;
+    number = sym no_turns;
+    state = same_s;
+    refused = 0;
+    handed = rw same_told (handed_first 0 (omega arith) (handed_none told []));
+    counted = all_sent;
+  },
+  refl,
+)
+
+-- inputs, others, and what came after them
+pub came_join : (size : ℕ) (left mid left_then : Option (List Answer)) (is js : List (ℕ × Input)) (after : List Answer)
+    → GaveAll size left (given_answers is) mid → GaveAll size mid (given_answers js ++ after) left_then
+    → GaveAll size left (given_answers (is ++ js) ++ after) left_then
+came_join size left mid left_then is js after g h =
+    let P : List Answer → Type 0 = λ answers. GaveAll size left answers left_then in
+    subst P (sym (ap (λ (answers : List Answer). answers ++ after) (map-append (λ (t : ℕ × Input). comes t.0 t.1) is js)
+    ∙ append_assoc (given_answers is) (given_answers js) after))
+    (gave_all_more size left (given_answers is) mid (given_answers js ++ after) left_then g h)

@@ -44,7 +44,7 @@ module _ {D : Type 0} {disk : Ghosts D} where
   begins same stands = rw same (record { keeps = keeps_same; broken = refl; stands = stands })
 
   -- the last call left everything as it was
-  works_itself : {old new : Keeper D disk} → Works old new → Works new new
+  pub works_itself : {old new : Keeper D disk} → Works old new → Works new new
   works_itself works = record {
     keeps = keeps_same;
     broken = refl;

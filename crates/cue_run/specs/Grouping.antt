@@ -6,9 +6,13 @@ use Rattle.cue_keeper.specs.declared.fault.Fault.{Fault}
 use Rattle.cue_keeper.specs.declared.fault.Fault.TheVariants.{Broken, Memory, Disk, Full}
 use Rattle.cue_keeper.specs.declared.keeper.Keeper.{Keeper}
 use Rattle.cue_keeper.specs.Accepting.{Accepts}
+use Rattle.cue_keeper.specs.Pairs.{LeavesPairsAtEachMoment}
+use Rattle.cue_keeper.specs.Stands.{StandsEither, folded_all}
 use Rattle.cue_keeper.specs.Observed as kept
 use Rattle.cue_engine.specs.declared.engine.Engine.{Engine}
 use Rattle.cue_engine.specs.Given.{Input}
+use Rattle.cue_engine.specs.Groups.{batches_given}
+use Rattle.cue_engine.specs.Lives.{Life, with_all, RunsWith, InEachLifeWith, View, view_of, IsSound}
 use Rattle.cue_engine.specs.Taking.{IsOffered, WhateverWasOffered}
 use Rattle.cue_engine.specs.Observed.{keeper_of, state_of, queue_of, offered_of, offered_sends_of, has_room}
 use Rattle.cue_engine.specs.Observed.{HasRoomForAll}
@@ -21,6 +25,7 @@ use Rattle.cue_run.specs.declared.groups.offering.Stop.TheVariants as stop
 use Rattle.cue_run.specs.declared.groups.offering.First.{First}
 use Rattle.cue_run.specs.declared.groups.offering.First.TheVariants as first
 use Rattle.cue_run.specs.Running.{given_answers, HasRun, Keeps, Works, Refuses}
+use Rattle.cue_run.specs.Through.{Past, point_of, Leads, steps_of, inputs_of}
 use Rattle.cue_engine.specs.Sources.{Answer, comes, ends, fails, GaveAll}
 
 -- ---- what was offered
@@ -170,6 +175,23 @@ StoppedBy size most (Some (stop.Fault fault.Source)) old new left left_then = Ga
 StoppedBy size most (Some (stop.Fault (fault.Engine f))) old new left left_then =
     Refuses size most f old new left left_then
 
+-- At each moment from the old keeper to the new one a crash leaves the state from before these inputs, or the one after
+-- all of them.
+abbrev pub LeavesEitherAtEachMoment :
+    {D : Type 0} {disk : Ghosts D} → List (ℕ × Input) → (old new : Keeper D disk) → Type 0
+LeavesEitherAtEachMoment {disk = disk} inputs old new =
+    disk.is_honest (kept.first_of old) → disk.is_honest (kept.second_of old) → kept.is_broken old ≡ false
+    → LeavesPairsAtEachMoment disk.moment disk.held_at (kept.first_of old) (kept.second_of old) (kept.first_of new)
+    (kept.second_of new)
+    (StandsEither (kept.state_of old) (folded_all (kept.state_of old) (batches_given (kept.state_of old) inputs)))
+
+-- What became of the group that was given to the disks: it was taken, or nothing was, and then the wire is told nothing
+-- and no round follows.
+abbrev pub TookAllOrNone : {D : Type 0} {disk : Ghosts D} → (group inputs : List (ℕ × Input)) → Option Stop
+    → (old new : Keeper D disk) → (told told_then : Option (List Handed)) → Type 0
+TookAllOrNone group inputs stop old new told told_then =
+    ((inputs ≡ group) × Works old new) ⊎ ((inputs ≡ []) × (told_then ≡ told) × (stop ≡ None → ⊥))
+
 -- One round: one group was taken and handed out, or none.
 pub record HasRound {D : Type 0} {disk : Ghosts D} (size room : ℕ) (round : Round) (old new : Engine D disk)
     (left left_then : Option (List Answer)) (told told_then : Option (List Handed)) : Type 0 where
@@ -182,8 +204,34 @@ pub record HasRound {D : Type 0} {disk : Ghosts D} (size room : ℕ) (round : Ro
   pub rests : kept.is_broken (keeper_of old) ≡ true → kept.pair_of (keeper_of new) ≡ kept.pair_of (keeper_of old)
   pub keeps : Keeps (keeper_of old) (keeper_of new)
   pub works : (round.stop ≡ Some (stop.Fault (fault.Engine Disk)) → ⊥) → Works (keeper_of old) (keeper_of new)
+  -- what was given to the disks, if anything was, and the answer after it that is no input of it
+  pub group : List (ℕ × Input)
+  pub after : List Answer
+  pub one_more : length after ≤ 1
+  pub came : GaveAll size left (given_answers group ++ after) left_then
+  pub moments : LeavesEitherAtEachMoment group (keeper_of old) (keeper_of new)
+  pub became : TookAllOrNone group taken.inputs round.stop (keeper_of old) (keeper_of new) told told_then
 
 -- ---- rounds in order
+
+-- up to the present moments the disks held this
+abbrev pub IsPastOf : View → Past → Type 0
+IsPastOf view past =
+    ((k : ℕ) → k ≤ view.first.moment → past.first k ≡ view.first.held_at k)
+    × ((k : ℕ) → k ≤ view.second.moment → past.second k ≡ view.second.held_at k)
+
+-- So far a life went through these inputs in groups, each committed and handed out, and through the hand-out before
+-- them: over whatever the disks held up to now and may have held later.
+pub record WentThrough {D : Type 0} {disk : Ghosts D} (inputs : List (ℕ × Input)) (old new : Engine D disk)
+    (told told_then : Option (List Handed)) (life : Life) : Type 0 where
+  pub groups : List (List (ℕ × Input))
+  pub all : inputs_of groups ≡ inputs
+  pub runs : RunsWith (with_all life (steps_of groups)) (state_of new) []
+  pub steps :
+      (past : Past)
+      → (IsSound (view_of old) → IsPastOf (view_of new) past)
+      → Leads (view_of old) past life (steps_of groups) (point_of (view_of old) told)
+      (point_of (view_of new) told_then)
 
 -- So far this was taken by rounds that did not stop the run, and nothing is owed or offered.
 pub record RanSoFar {D : Type 0} {disk : Ghosts D} (size turns unsent : ℕ) (old new : Engine D disk)
@@ -194,3 +242,5 @@ pub record RanSoFar {D : Type 0} {disk : Ghosts D} (size turns unsent : ℕ) (ol
   pub rests : kept.is_broken (keeper_of old) ≡ true → kept.pair_of (keeper_of new) ≡ kept.pair_of (keeper_of old)
   pub emptied : queue_of new ≡ []
   pub dropped : IsOffered [] new
+  pub through :
+      InEachLifeWith (state_of old) (queue_of old) (λ life. WentThrough taken.inputs old new told told_then life)

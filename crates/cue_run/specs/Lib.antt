@@ -1,3 +1,4 @@
 pub mod Grouping
 pub mod Running
 pub mod Lives
+pub mod Through

@@ -4,6 +4,7 @@ ghost use Rattle.std.specs.Prelude.{◌≡◌, ◌≤◌, [], length, max, vec_c
 ghost use Rattle.cue_engine.specs.Taking.{IsOffered};
 ghost use Rattle.cue_run.specs.Grouping.{fault_of};
 ghost use Rattle.cue_run.specs.Running.{Ran};
+ghost use Rattle.cue_run.specs.Through.{RunsThrough};
 ghost use Rattle.cue_run.specs.declared.turns.TheConstants.{MAX_RECEIVED};
 
 mod handing;
@@ -55,6 +56,8 @@ fn run_rounds<D: Disk, S: Source, W: Wire, V: Watch<W>>(
     requires { 1 ≤ vec_capacity ends.old }
     ensures ran { Ran (length buffer.old) (vec_capacity ends.old) turns result engine.old engine.new
         (S.left source.old) (S.left source.new) (W.told wire.old) (W.told wire.new) }
+    ensures through { RunsThrough (length buffer.old) result.turns engine.old engine.new
+        (S.left source.old) (S.left source.new) (W.told wire.old) (W.told wire.new) }
     ensures dropped { IsOffered [] engine.new }
 {
     engine.withdraw();
@@ -101,6 +104,10 @@ pub fn run_grouped<D: Disk, S: Source, W: Wire, V: Watch<W>>(
     // it, one input after the other; it ended for its reason, and the engine works on unless a device failed.
     ensures ran { Ran MAX_RECEIVED (max 1 most) turns result engine.old engine.new
         (S.left source.old) (S.left source.new) (W.told wire.old) (W.told wire.new) }
+    // It goes from hand-out to commit and from commit to hand-out, in each life that has come to the engine; if its
+    // disks were sound, the promise holds at each moment of them.
+    ensures through { RunsThrough MAX_RECEIVED result.turns engine.old engine.new
+        (S.left source.old) (S.left source.new) (W.told wire.old) (W.told wire.new) }
     // Nothing is left of what was offered before it, nor of what it offered.
     ensures dropped { IsOffered [] engine.new }
 {
@@ -137,6 +144,10 @@ pub fn run_watched<D: Disk, S: Source, W: Wire, V: Watch<W>>(
     // ended for its reason, and the engine works on unless a device failed.
     ensures ran { Ran MAX_RECEIVED 1 turns result engine.old engine.new
         (S.left source.old) (S.left source.new) (W.told wire.old) (W.told wire.new) }
+    // It goes from hand-out to commit and from commit to hand-out, in each life that has come to the engine; if its
+    // disks were sound, the promise holds at each moment of them.
+    ensures through { RunsThrough MAX_RECEIVED result.turns engine.old engine.new
+        (S.left source.old) (S.left source.new) (W.told wire.old) (W.told wire.new) }
 {
     run_grouped(alloc, engine, source, wire, turns, 1, watch)
 }
@@ -152,6 +163,10 @@ pub fn run<D: Disk, S: Source, W: Wire>(
     // What was taken is what the source gave first, the state and the wire are what the definition makes of it, it
     // ended for its reason, and the engine works on unless a device failed.
     ensures ran { Ran MAX_RECEIVED 1 turns result engine.old engine.new
+        (S.left source.old) (S.left source.new) (W.told wire.old) (W.told wire.new) }
+    // It goes from hand-out to commit and from commit to hand-out, in each life that has come to the engine; if its
+    // disks were sound, the promise holds at each moment of them.
+    ensures through { RunsThrough MAX_RECEIVED result.turns engine.old engine.new
         (S.left source.old) (S.left source.new) (W.told wire.old) (W.told wire.new) }
 {
     run_watched(alloc, engine, source, wire, turns, &mut Unwatched)

@@ -7,6 +7,7 @@ ghost use Rattle.cue_engine.specs.Observed.{state_of, queue_of, first_of, second
 ghost use Rattle.cue_engine.specs.Lives.{InEachLifeWith, IsSound, view_of};
 ghost use Rattle.cue_run.specs.declared.turns.TheConstants.{MAX_RECEIVED};
 ghost use Rattle.cue_run.specs.Lives.{GoesThrough, EndsAtRest};
+ghost use Rattle.cue_run.specs.Through.{RunsThrough, EachMomentIsSafe};
 
 use crate::turns::Ended;
 use crate::watch::Watch;
@@ -16,7 +17,9 @@ use std::alloc::Global;
 
 /// `run_grouped` in the life of a store: it goes on with a commit and a hand-out of each input that the run took, and
 /// has as handed over what the wire reports. However the run ended, by a fault of a device too, the engine may be
-/// closed then, and the store recovered: the life goes on at rest.
+/// closed then, and the store recovered: the life goes on at rest. It went in steps, from hand-out to commit and from
+/// commit to hand-out. If the disks were sound, the promise holds at each moment of them within it, whatever a crash
+/// leaves there: of the steps before, and of the one that is cut off.
 pub fn run_grouped<D: Disk, S: Source, W: Wire, V: Watch<W>>(
     alloc: Global,
     engine: &mut Engine<D>,
@@ -31,6 +34,8 @@ pub fn run_grouped<D: Disk, S: Source, W: Wire, V: Watch<W>>(
         (state_of engine.new)) }
     ensures rests { IsSound (view_of engine.old) → InEachLifeWith (state_of engine.new) []
         (λ life. EndsAtRest life (D.held (first_of engine.new)) (D.held (second_of engine.new))) }
+    ensures through { RunsThrough MAX_RECEIVED result.turns engine.old engine.new
+        (S.left source.old) (S.left source.new) (W.told wire.old) (W.told wire.new) }
 {
     crate::groups::run_grouped(alloc, engine, source, wire, turns, most, watch)
 }
@@ -48,6 +53,14 @@ pub fn run<D: Disk, S: Source, W: Wire>(
         (state_of engine.new)) }
     ensures rests { IsSound (view_of engine.old) → InEachLifeWith (state_of engine.new) []
         (λ life. EndsAtRest life (D.held (first_of engine.new)) (D.held (second_of engine.new))) }
+    ensures through { RunsThrough MAX_RECEIVED result.turns engine.old engine.new
+        (S.left source.old) (S.left source.new) (W.told wire.old) (W.told wire.new) }
 {
     crate::groups::run(alloc, engine, source, wire, turns)
 }
+
+/// No moment of a run is left out: if its disks were sound, each moment of either lies in one of its steps, or in the
+/// commit that was refused last, and the promise holds there.
+pub fn each_moment_is_safe<D: Disk>()
+    ensures { EachMomentIsSafe D.Disk }
+{}

@@ -1,5 +1,6 @@
 //! What is left to chance: the same of the same seed.
 ghost use Rattle.std.specs.Prelude.{◌≡◌, ◌≤◌, IsTrue, false};
+ghost use Rattle.cue_rehearsal.specs.Drawing.{chance_of, is_lost, next, up_to, word_of};
 
 use rand_core::utils::NextWord;
 use rand_pcg::Pcg32;
@@ -8,36 +9,50 @@ use rand_pcg::Pcg32;
 const STREAM: u64 = 54;
 
 /// Draws from a seed. It is no secret.
-#[derive(Drop)]
+#[derive(Clone, Copy)]
 pub struct Chance {
-    generator: Pcg32,
+    // That of the generator.
+    state: u64,
 }
 
 impl Chance {
     /// The draws of this seed.
-    pub fn new(seed: u64) -> Chance {
+    pub fn new(seed: u64) -> Chance
+        ensures { result ≡ chance_of seed }
+    {
         Chance {
-            generator: Pcg32::new(seed, STREAM),
+            state: Pcg32::new(seed, STREAM).state(),
         }
     }
 
     // The next draw.
-    fn word(&mut self) -> u32 {
-        self.generator.next_word()
+    fn word(&mut self) -> u32
+        ensures word { result ≡ word_of self.old }
+        ensures next { self.new ≡ next self.old }
+    {
+        let mut generator = Pcg32::from_state(self.state, STREAM);
+        let word = generator.next_word();
+        self.state = generator.state();
+        word
     }
 
     /// A number up to this one.
     pub fn up_to(&mut self, most: u32) -> u32
-        ensures { result ≤ most }
+        ensures drawn { result ≡ up_to most self.old }
+        ensures next { self.new ≡ next self.old }
+        ensures within { result ≤ most }
     {
+        let word = self.word();
         match most.checked_add(1) {
-            Some(count) => self.word() % count,
-            None => self.word(),
+            Some(count) => word % count,
+            None => word,
         }
     }
 
     /// Whether the next datagram is lost, if so many of a hundred are.
     pub fn is_lost(&mut self, of_hundred: u8) -> bool
+        ensures drawn { result ≡ is_lost of_hundred self.old }
+        ensures next { self.new ≡ next self.old }
         ensures none { of_hundred ≡ 0 → result ≡ false }
         ensures all { 100 ≤ of_hundred → IsTrue result }
     {

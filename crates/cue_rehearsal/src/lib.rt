@@ -4,9 +4,10 @@
 //! machine does one order at a time, from a time on and for so long (`Work`). When that time is over it reports that it
 //! prepared, moved or gave up; or that it cannot, if its `Behaviour` says so (`specs/Playing.antt`). A silent one hears
 //! nothing and stays as it is. `Plan` is what the table `[rehearse]` of a show file says. `Chance` draws from a seed,
-//! and says which datagrams are lost. Nothing here opens a socket or looks at a clock.
+//! by the words of PCG32 (`specs/Drawing.antt`), and says which datagrams are lost. Nothing here opens a socket or looks
+//! at a clock.
 //!
-//! Only tested: what `read_plan` makes of a text, the lines, and that the same seed draws the same.
+//! Only tested: what `read_plan` makes of a text, and the lines.
 #![tactic(auto)]
 
 mod chance;

@@ -19,7 +19,7 @@ pub struct Work {
 }
 
 /// A device of `cue_device` with a machine that is played. Moments are milliseconds since the rehearsal began.
-#[derive(Drop)]
+#[derive(Clone, Copy)]
 pub struct Player {
     device: Device,
     manner: Manner,

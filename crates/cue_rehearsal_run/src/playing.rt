@@ -1,85 +1,57 @@
-//! The loop over the sockets of all devices.
-use crate::seat::{Seat, Shared, seat_of};
+//! The devices of a show file at their sockets.
 use cue_desk::counting::Count;
 use cue_desk::ending::Ending;
-use cue_rehearsal::{Chance, Plan};
-use cue_saying::print;
+use cue_edge_run::{NetEars, NetPost, bind};
+use cue_machine::{Address, Why};
+use cue_rehearsal::Plan;
+use cue_rehearsal_machine::{RehearsalMachine, Role, run};
+use cue_saying::{print, say};
 use cue_show_file::ShowFile;
+use mio::net::UdpSocket;
+use std::alloc::{AllocError, Global};
+use std::fs::{File, Files};
 use std::io::{Eprint, Write};
-use std::net::Net;
-use std::thread;
-use std::time::{Clock, Duration, Instant};
+use std::net::{Ipv4Addr, Net};
+use std::time::Clock;
 
-/// The time between two rounds over the sockets, in milliseconds.
-const PAUSE: u64 = 4;
-
-/// How many rounds there are from one tick of the devices to the next: some four ticks in a second.
-const ROUNDS: u64 = 60;
-
-// All devices of the file.
-fn seats_of<R: Net + Eprint + AllocGlobal>(
-    rt: &R,
-    file: &ShowFile,
-    plan: &Plan,
-) -> Result<Vec<Seat>, Ending> {
-    let mut seats = Vec::new(rt.alloc());
+// Who is rehearsed: each device of the file, at its port of this machine.
+fn roles_of(alloc: Global, file: &ShowFile, plan: &Plan) -> Result<Vec<Role>, AllocError> {
+    let host = Ipv4Addr::LOCALHOST.to_bits();
+    let mut roles = Vec::with_capacity(alloc, file.devices.len())?;
     for entry in file.devices.iter() {
-        let seat = seat_of(rt, entry, plan)?;
-        if seats.push(seat).is_err() {
-            return Err(Ending::Failed);
+        let port = entry.port;
+        roles.push(Role {
+            device: entry.number,
+            manner: plan.manner_of(entry.number),
+            address: Address { host, port },
+        })?;
+    }
+    Ok(roles)
+}
+
+// Where their sockets are, in their order.
+fn addresses_of(alloc: Global, roles: &[Role]) -> Result<Vec<Address>, AllocError> {
+    let mut addresses = Vec::with_capacity(alloc, roles.len())?;
+    for role in roles {
+        addresses.push(role.address)?;
+    }
+    Ok(addresses)
+}
+
+// A socket for each, in their order; if there is none at a port, why is on standard error.
+fn bind_all<R: Net + Eprint + AllocGlobal>(
+    rt: &R,
+    roles: &[Role],
+) -> Result<Vec<UdpSocket>, Ending> {
+    let addresses = addresses_of(rt.alloc(), roles)?;
+    match bind(rt, &addresses) {
+        Ok(sockets) => Ok(sockets),
+        Err(fault) => {
+            let port = fault.address.port;
+            say(rt, format_args!("no socket at port {port}: {}", fault.why));
+            Err(Ending::Failed)
         }
     }
-    Ok(seats)
-}
-
-// One round over the sockets.
-fn play_round<R: AllocGlobal, W: Write>(
-    rt: &R,
-    seats: &mut [Seat],
-    shared: &mut Shared,
-    writer: &mut W,
-) -> Result<(), Ending> {
-    for seat in seats {
-        seat.hear_all(rt, shared, writer)?;
-        seat.work(rt, shared, writer)?;
-    }
-    Ok(())
-}
-
-// Each device repeats the abort that nobody asked for.
-fn tick(seats: &[Seat], shared: &mut Shared) {
-    for seat in seats {
-        seat.send_answer(shared, seat.player.tick());
-    }
-}
-
-// Milliseconds since the rehearsal began.
-fn since<C: Clock>(clock: &C, start: Instant) -> Result<u64, Ending> {
-    match start.elapsed(clock) {
-        Ok(time) => Ok(u64::try_from(time.as_millis()).unwrap_or(u64::MAX)),
-        Err(_) => Err(Ending::Failed),
-    }
-}
-
-// Plays on until the program is ended.
-fn play_on<R: Clock + AllocGlobal, W: Write>(
-    rt: &R,
-    seats: &mut [Seat],
-    shared: &mut Shared,
-    writer: &mut W,
-) -> Result<(), Ending> {
-    let Ok(start) = Instant::now(rt) else {
-        return Err(Ending::Failed);
-    };
-    for round in 0..u64::MAX {
-        shared.now = since(rt, start)?;
-        play_round(rt, seats, shared, writer)?;
-        if round % ROUNDS == 0 {
-            tick(seats, shared);
-        }
-        thread::sleep(rt, Duration::from_millis(PAUSE));
-    }
-    Ok(())
 }
 
 // Says how many devices play.
@@ -102,20 +74,47 @@ fn say_who_plays<R: AllocGlobal, W: Write>(
     )
 }
 
+// How the rehearsal ended. It is over only once a line could not be printed.
+fn ending_of<R: Eprint>(rt: &R, why: Why) -> Ending {
+    let words = match why {
+        Why::Over => return Ending::Unwritten,
+        Why::Ears => "a socket or the clock failed",
+        Why::End => "a socket or the clock failed",
+        Why::Memory => "out of memory",
+        Why::Turns => "it has had its turns",
+    };
+    say(rt, words);
+    Ending::Failed
+}
+
+// Plays at these sockets, until the program is ended: why it ended.
+fn play_at<R: Files<File = File> + Net + Clock + Eprint + AllocGlobal, W: Write>(
+    rt: &R,
+    machine: &mut RehearsalMachine,
+    sockets: &mut [UdpSocket],
+    writer: &mut W,
+) -> Result<Why, AllocError> {
+    let Ok(mut ears) = NetEars::steady(rt, rt, sockets) else {
+        return Ok(Why::Ears);
+    };
+    let mut post = NetPost::new(rt, ears.sockets(), None, writer)?;
+    let ended = run(rt.alloc(), machine, &mut ears, &mut post, u64::MAX)?;
+    Ok(ended.why)
+}
+
 /// Plays every device of the file by this plan, until the program is ended. The draws come from the seed.
-pub fn play<R: Net + Clock + Eprint + AllocGlobal, W: Write>(
+pub fn play<R: Files<File = File> + Net + Clock + Eprint + AllocGlobal, W: Write>(
     rt: &R,
     file: &ShowFile,
-    plan: Plan,
+    plan: &Plan,
     seed: u64,
     writer: &mut W,
 ) -> Result<(), Ending> {
-    let mut seats = seats_of(rt, file, &plan)?;
-    say_who_plays(rt, seats.len(), writer)?;
-    let mut shared = Shared {
-        plan,
-        chance: Chance::new(seed),
-        now: 0,
-    };
-    play_on(rt, &mut seats, &mut shared, writer)
+    let alloc = rt.alloc();
+    let roles = roles_of(alloc, file, plan)?;
+    let mut sockets = bind_all(rt, &roles)?;
+    say_who_plays(rt, sockets.len(), writer)?;
+    let mut machine = RehearsalMachine::new(alloc, &roles, plan.loss, plan.spread, seed)?;
+    let why = play_at(rt, &mut machine, &mut sockets, writer)?;
+    Err(ending_of(rt, why))
 }

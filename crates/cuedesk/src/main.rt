@@ -17,9 +17,8 @@
 //!   cues stand. The folder is that of the store that is served as far as the status shows: of two stores with the same
 //!   five facts nobody could say which it is. Without the folder `load` adds, and says that it did not compare.
 //! - `check` reads the TOML once, which is most of its time.
-//! - A rehearsal asks each socket in turn, every 4 ms: 112 sockets in one loop, without a thread. A relay waits over
-//!   epoll, by the kit's `mio`; a socket has one datagram read in its turn, so that one that is flooded does not keep
-//!   the others waiting.
+//! - Relay and rehearsal wait over epoll, by the kit's `mio`, without a thread; a socket has one datagram read in its
+//!   turn, so that one that is flooded does not keep the others waiting.
 //! - No completion for a shell: the kit's `clap` has none.
 //!
 //! Only tested: sockets, files, the terminal, the command line, and which ending a command has.

@@ -9,7 +9,7 @@ use std::net::Net;
 use std::time::Clock;
 
 // Plays the devices of a show file, by its plan and by what the flags say.
-fn play_file<R: Net + Clock + Eprint + AllocGlobal, W: Write>(
+fn play_file<R: Files<File = File> + Net + Clock + Eprint + AllocGlobal, W: Write>(
     rt: &R,
     rehearsal: &Rehearsal,
     sound: &Sound,
@@ -22,7 +22,7 @@ fn play_file<R: Net + Clock + Eprint + AllocGlobal, W: Write>(
     let mut plan = plan_of(rt, at, &sound.table)?;
     with_flags(rt.alloc(), &mut plan, &rehearsal.flags)?;
     knows_plan(rt, None, &sound.file, &plan)?;
-    play(rt, &sound.file, plan, rehearsal.seed, writer)
+    play(rt, &sound.file, &plan, rehearsal.seed, writer)
 }
 
 /// The command `rehearse`.

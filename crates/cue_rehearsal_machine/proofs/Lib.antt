@@ -1,0 +1,5 @@
+mod LawLemmas
+mod LifeLemmas
+mod SeatLemmas
+mod StepLemmas
+mod TableLemmas

@@ -26,8 +26,9 @@ extern "C" {
 /* What a call gives. */
 enum cue_order {
     CUE_NO_ORDER = 0, /* the machine has nothing new to do */
-    CUE_PREPARE = 1,  /* prepare for the cue in `device.cue` with `device.bytes`; then call cue_prepared. Give up first
-                         what you still hold for an earlier number. CUE_GIVE_UP may come meanwhile, in its place */
+    CUE_PREPARE = 1,  /* prepare for the cue in `device.cue` with `device.bytes`, of which you copy what the motion needs:
+                         a higher number writes its own there meanwhile. Then call cue_prepared. Give up first what you
+                         still hold for an earlier number. CUE_GIVE_UP may come meanwhile, in its place */
     CUE_MOVE = 2,     /* carry out what you prepared; then call cue_moved */
     CUE_GIVE_UP = 3,  /* stop preparing, or let go of what you prepared; then call cue_gave_up */
     CUE_BAD_CALL = 4  /* a null pointer, a number out of range, a struct that is no device, or a report that is not the
@@ -135,9 +136,10 @@ static inline uint32_t cue_new(struct cue_device *device, uint32_t number)
 /* Makes a device that was restarted: its machine is at rest and holds nothing. `kept` is the `device.last` that you
  * kept, 0 to 2147483647, and `controller` the `device.controller`; if nothing was kept yet, 0 and any place. It never
  * moves for a number up to `kept` again, whatever is still under way. Send the answer, the abort of `kept`, forty
- * times in the first second, every 25 ms, while `phase` is CUE_OVER; a /reply does not end that. From then on cue_tick
- * gives it until its /reply came or a higher number did. So a cue that waits for this device is given up before anybody
- * moves. Gives CUE_NO_ORDER, or CUE_BAD_CALL as cue_new does, and for a number without its place. */
+ * times in the first second, every 25 ms, to `device.controller`, while `phase` is CUE_OVER; a /reply does not end
+ * that. From then on cue_tick gives it until its /reply came or a higher number did. So a cue that waits for this
+ * device is given up before anybody moves. Gives CUE_NO_ORDER, or CUE_BAD_CALL as cue_new does, and for a number
+ * without its place. */
 static inline uint32_t cue_restarted(struct cue_device *device, uint32_t number, uint32_t kept,
                                      const struct cue_place *controller, struct cue_answer *answer)
 {

@@ -11,8 +11,10 @@
  * CUE_BAD_CALL, and then changes nothing and has nothing to send. A struct is no device if neither cue_new nor
  * cue_restarted of this header made it, or if one of its numbers but `last` and `doing_number` is out of its range.
  *
- * Never keep the struct itself over a restart: a copy from before a motion would move again. Keep `device.last` and
- * `device.controller`, and hand them to cue_restarted. */
+ * Hand each call the struct as the call before left it. Then it is one device all along, and moves at most once for
+ * each number (crates/cue_device_c/src/laws.rt has that as proved laws). Never put a copy back, and never keep the
+ * struct itself over a restart: one from before a motion would move again. Keep `device.last` and `device.controller`,
+ * and hand them to cue_restarted. */
 #ifndef CUE_DEVICE_H
 #define CUE_DEVICE_H
 
@@ -26,8 +28,8 @@ extern "C" {
 /* What a call gives. */
 enum cue_order {
     CUE_NO_ORDER = 0, /* the machine has nothing new to do */
-    CUE_PREPARE = 1,  /* prepare for the cue in `device.cue` with `device.bytes`, of which you copy what the motion needs:
-                         a higher number writes its own there meanwhile. Then call cue_prepared. Give up first what you
+    CUE_PREPARE = 1,  /* prepare for the cue in `device.cue` with `device.bytes`; then call cue_prepared. Copy from there
+                         what the motion needs: a higher number writes its own there meanwhile. Give up first what you
                          still hold for an earlier number. CUE_GIVE_UP may come meanwhile, in its place */
     CUE_MOVE = 2,     /* carry out what you prepared; then call cue_moved */
     CUE_GIVE_UP = 3,  /* stop preparing, or let go of what you prepared; then call cue_gave_up */

@@ -1,2 +1,4 @@
 pub mod PlacesLemmas
 pub mod ReportLemmas
+pub mod RoundLemmas
+pub mod LifeLemmas

@@ -1,12 +1,13 @@
 -- A report in time: what the call leaves and sends.
-use Rattle.std.proofs.Common.{◌≡◌, ◌∙◌, ℕ, Option, Some, Result, Ok, refl, sym, ap, subst}
+use Rattle.std.proofs.Common.{◌≡◌, ◌∙◌, ℕ, Bool, Option, Some, Result, Ok, refl, sym, ap, subst}
+use Rattle.std.proofs.lemmas.Bool.{eq-eqb}
 use Rattle.cue_device.specs.declared.hearing.Device.{Device}
 use Rattle.cue_device.specs.declared.hearing.ReportFault.{ReportFault}
 use Rattle.cue_device.specs.declared.hearing.Told.{Told}
 use Rattle.cue_device.specs.declared.words.Answer.{Answer}
 use Rattle.cue_device.specs.Datagrams.{answered_text}
 use Rattle.cue_device.specs.Hearing.{after_call, answer_call, reported_for}
-use Rattle.cue_device_c.specs.Calls.{Reports, Tells, TellsOf, sent_bytes}
+use Rattle.cue_device_c.specs.Calls.{Ends, EndsIf, Reports, Tells, TellsOf, sent_bytes}
 use Rattle.cue_device_c.specs.State.{device_of, numbers_of}
 use Rattle.cue_device_c.specs.declared.state.CueDevice.{CueDevice}
 use Rattle.cue_device_c.specs.declared.answer.CueAnswer.{CueAnswer}
@@ -26,3 +27,9 @@ reports what old new answer d after said is called state made sent to =
       to = to;
       result = refl;
     }))
+
+-- the machine does the order that is reported: it ends that
+pub ends : (order : ℕ) (what : ℕ → Told) (old new : CueDevice) (answer : CueAnswer) (given : ℕ)
+    → old.doing ≡ order → Tells what old new answer given → Ends order what old new answer given
+ends order what old new answer given is told =
+    subst (λ (b : Bool). EndsIf b what old new answer given) (sym (eq-eqb old.doing order is)) told

@@ -1,5 +1,5 @@
 -- What a call of C makes of the numbers: what the library's call makes of the device that they stand for.
-use Rattle.std.specs.Prelude.{◌≡◌, ℕ, Bool, true, false, List, [], take, Option, Some, None, Result, Ok, Err}
+use Rattle.std.specs.Prelude.{◌≡◌, ℕ, Bool, true, false, List, [], take, Option, Some, None, Result, Ok, Err, nat_eq}
 use Rattle.cue_device.specs.declared.asked.Command.{Command}
 use Rattle.cue_device.specs.declared.hearing.Device.{Device}
 use Rattle.cue_device.specs.declared.hearing.ReportFault.{ReportFault}
@@ -63,6 +63,14 @@ TellsOf (Some d) what old new answer given =
 -- the machine reports
 abbrev pub Tells : (ℕ → Told) → CueDevice → CueDevice → CueAnswer → ℕ → Type 0
 Tells what old new answer given = TellsOf (device_of old) what old new answer given
+
+-- The machine reports the end of the order that has this number: while it does another one, or none, it is no call.
+abbrev pub EndsIf : Bool → (ℕ → Told) → CueDevice → CueDevice → CueAnswer → ℕ → Type 0
+EndsIf false what old new answer given = IsNoCall old new answer given
+EndsIf true what old new answer given = Tells what old new answer given
+
+abbrev pub Ends : ℕ → (ℕ → Told) → CueDevice → CueDevice → CueAnswer → ℕ → Type 0
+Ends order what old new answer given = EndsIf (nat_eq old.doing order) what old new answer given
 
 -- ---- a datagram comes
 

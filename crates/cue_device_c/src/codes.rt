@@ -7,6 +7,11 @@ use cue_device::{Order, Phase};
 /// What a call gives if it was no call: `CUE_BAD_CALL`.
 pub const BAD_CALL: u32 = 4;
 
+/// The orders to the machine, as `doing` has them: `CUE_PREPARE`, `CUE_MOVE`, `CUE_GIVE_UP`.
+pub const PREPARE: u32 = 1;
+pub const MOVE: u32 = 2;
+pub const GIVE_UP: u32 = 3;
+
 // `enum cue_phase`: the phase of an attempt, 0 if there is none.
 pub(crate) fn phase_code(phase: Option<Phase>) -> u32
     ensures { result ≡ phase_code phase }

@@ -3,13 +3,13 @@ ghost use Rattle.std.specs.Prelude.{◌≡◌, ◌≢◌, ◌≤◌, ◌<◌, Is
 ghost use Rattle.cue_show.specs.declared.limits.TheConstants.{MAX_DEVICE_NUMBER};
 ghost use Rattle.cue_device.specs.declared.hearing.Told.TheVariants.{Prepared, Moved, GaveUp, Cannot};
 ghost use Rattle.cue_device.specs.declared.reading.TheConstants.{MAX_NUMBER};
-ghost use Rattle.cue_device_c.specs.Calls.{Hears, IsController, IsMade, IsRestarted, Names, Tells, Ticks};
+ghost use Rattle.cue_device_c.specs.Calls.{Ends, Hears, IsController, IsMade, IsRestarted, Names, Tells, Ticks};
 ghost use Rattle.cue_device_c.specs.State.{is_heard, is_none_place};
-ghost use Rattle.cue_device_c.specs.declared.codes.TheConstants.{BAD_CALL};
+ghost use Rattle.cue_device_c.specs.declared.codes.TheConstants.{BAD_CALL, GIVE_UP, MOVE, PREPARE};
 ghost use Rattle.cue_device_c.specs.declared.state.TheConstants.{SIZE};
 
 use crate::answer::CueAnswer;
-use crate::codes::{BAD_CALL, order_code};
+use crate::codes::{BAD_CALL, GIVE_UP, MOVE, PREPARE, order_code};
 use crate::state::{CueDevice, CuePlace, SIZE, device_number};
 use cue_device::{Device, MAX_ANSWER, MAX_NUMBER, ReportFault, command};
 use cue_show::DeviceNo;
@@ -128,11 +128,15 @@ fn controller_after(datagram: &[u8], number: DeviceNo, from: CuePlace, before: C
     }
 }
 
-/// The machine has prepared, as it was ordered. Gives 0, or `BAD_CALL` if it prepares nothing or `device` is none.
+/// The machine has prepared, as it was ordered. Gives 0, or `BAD_CALL` if `doing` is another order or `device` is none.
 #[unsafe(no_mangle)]
 pub extern "C" fn cue_device_prepared(device: &mut CueDevice, answer: &mut CueAnswer) -> u32
-    ensures { Tells Prepared device.old device.new answer.new result }
+    ensures { Ends PREPARE Prepared device.old device.new answer.new result }
 {
+    if device.doing != PREPARE {
+        *answer = CueAnswer::none();
+        return BAD_CALL;
+    }
     match device.read() {
         Some(mut state) => match state.prepared() {
             Ok(said) => {
@@ -152,11 +156,15 @@ pub extern "C" fn cue_device_prepared(device: &mut CueDevice, answer: &mut CueAn
     }
 }
 
-/// The machine has carried the cue out. Gives 0, or `BAD_CALL` if it does not move or `device` is none.
+/// The machine has carried the cue out. Gives 0, or `BAD_CALL` if `doing` is another order or `device` is none.
 #[unsafe(no_mangle)]
 pub extern "C" fn cue_device_moved(device: &mut CueDevice, answer: &mut CueAnswer) -> u32
-    ensures { Tells Moved device.old device.new answer.new result }
+    ensures { Ends MOVE Moved device.old device.new answer.new result }
 {
+    if device.doing != MOVE {
+        *answer = CueAnswer::none();
+        return BAD_CALL;
+    }
     match device.read() {
         Some(mut state) => match state.moved() {
             Ok(said) => {
@@ -176,11 +184,15 @@ pub extern "C" fn cue_device_moved(device: &mut CueDevice, answer: &mut CueAnswe
     }
 }
 
-/// The machine has given up what it prepared. Gives 0, or `BAD_CALL` if it gives nothing up or `device` is none.
+/// The machine has given up what it prepared. Gives 0, or `BAD_CALL` if `doing` is another order or `device` is none.
 #[unsafe(no_mangle)]
 pub extern "C" fn cue_device_gave_up(device: &mut CueDevice, answer: &mut CueAnswer) -> u32
-    ensures { Tells GaveUp device.old device.new answer.new result }
+    ensures { Ends GIVE_UP GaveUp device.old device.new answer.new result }
 {
+    if device.doing != GIVE_UP {
+        *answer = CueAnswer::none();
+        return BAD_CALL;
+    }
     match device.read() {
         Some(mut state) => match state.gave_up() {
             Ok(said) => {

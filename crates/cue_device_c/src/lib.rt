@@ -12,6 +12,9 @@
 //! hears an order. The magic word and the size refuse a struct of zeros, of another version or of another program; they
 //! cannot show a copy from before a motion.
 //!
+//! What joins two calls is in `laws`: if each call is handed what the one before left, the struct is one device all
+//! along, and so C is told to move at most once for each number.
+//!
 //! `rt lib` builds `out/libcue_device_c.a`: 13,125 bytes of code and 32 of data on x86-64, and nothing else but
 //! `memcpy` and `memset`. The call with the deepest stack, `cue_hear`, takes some 900 bytes.
 #![tactic(auto)]
@@ -19,6 +22,7 @@
 mod answer;
 mod codes;
 mod exports;
+pub mod laws;
 mod state;
 
 pub use answer::CueAnswer;

@@ -37,9 +37,10 @@ impl CuePlace {
     }
 }
 
-/// `struct cue_device`, whose fields `include/cue_device.h` describes.
+/// `struct cue_device`, whose fields `include/cue_device.h` describes. It is not copied: what goes on from an older value
+/// may move again. In C that is left to the maker, whom the header tells.
 #[repr(C)]
-#[derive(Clone, Copy)]
+#[derive(Drop)]
 pub struct CueDevice {
     pub magic: u32,
     pub size: u32,

@@ -104,7 +104,7 @@ static int is_task(const struct task *task)
            task->bytes_length <= 32;
 }
 
-/* Any phase, and an order that the machine may then be at work with. */
+/* Any phase, and an order that the machine may then be at work with, or one that does not belong to it. */
 static void any_state(void)
 {
     static const uint32_t ITS[] = {[CUE_PREPARING] = CUE_PREPARE, [CUE_MOVING] = CUE_MOVE,
@@ -116,6 +116,10 @@ static void any_state(void)
     if (table.phase >= CUE_LET_GO && below(2)) { /* or with what a lower number asked for */
         table.doing = 1 + below(3);
         table.doing_number = table.last - (table.phase == CUE_LET_GO || below(2));
+    }
+    if (below(6) == 0) { /* no call leaves that: a bit has flipped, and each number is still in its range */
+        table.doing = below(4);
+        table.doing_number = table.doing ? table.last + below(3) - 1 : 0;
     }
     table.unheard = (table.phase == CUE_OVER || table.phase == CUE_FAILED) && below(2);
     table.controller = place();

@@ -28,9 +28,9 @@ extern "C" {
 /* What a call gives. */
 enum cue_order {
     CUE_NO_ORDER = 0, /* the machine has nothing new to do */
-    CUE_PREPARE = 1,  /* prepare for the cue in `device.cue` with `device.bytes`; then call cue_prepared. Copy from there
-                         what the motion needs: a higher number writes its own there meanwhile. Give up first what you
-                         still hold for an earlier number. CUE_GIVE_UP may come meanwhile, in its place */
+    CUE_PREPARE = 1,  /* prepare for the cue in `device.cue` with `device.bytes`; then call cue_prepared. Copy from
+                         there what the motion needs: a higher number writes its own there meanwhile. Give up first
+                         what you still hold for an earlier number. CUE_GIVE_UP may come meanwhile, in its place */
     CUE_MOVE = 2,     /* carry out what you prepared; then call cue_moved */
     CUE_GIVE_UP = 3,  /* stop preparing, or let go of what you prepared; then call cue_gave_up */
     CUE_BAD_CALL = 4  /* a null pointer, a number out of range, a struct that is no device, or a report that is not the

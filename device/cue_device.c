@@ -575,6 +575,9 @@ static uint32_t refuse(const struct cue_device *device, struct cue_answer *answe
 {
     (void)device;
     say_nothing(answer);
+    /*@ assert ARRAYS_STAY(device); */
+    /*@ assert same_name{Pre, Here}(device) && same_heard{Pre, Here}(device) && same_controller{Pre, Here}(device); */
+    /*@ assert same_work{Pre, Here}(device) && same_phase{Pre, Here}(device); */
     return CUE_BAD_CALL;
 }
 
@@ -590,8 +593,12 @@ static void say(struct cue_answer *answer, const struct cue_device *device, uint
     const uint32_t number = device->number;
     size_t i;
     say_nothing(answer);
+    /*@ assert ARRAYS_STAY(device); */
+    /*@ assert same_name{Pre, Here}(device) && same_heard{Pre, Here}(device) && same_controller{Pre, Here}(device); */
+    /*@ assert same_work{Pre, Here}(device) && same_phase{Pre, Here}(device); */
     /*@ assert same{Pre, Here}(device); */
     copy(answer->to.bytes, device->controller.bytes, sizeof answer->to.bytes);
+    /*@ assert ARRAYS_STAY(device); */
     /*@ assert same{Pre, Here}(device); */
     /*@ assert goes_to(answer, device) && zeros(&answer->bytes[0], 0, 64); */
     if (word == (uint32_t)SILENT) {
@@ -605,6 +612,7 @@ static void say(struct cue_answer *answer, const struct cue_device *device, uint
     for (i = 0; i < sizeof answer->bytes; i++) {
         answer->bytes[i] = answer_byte_of(number, word, attempt, i);
     }
+    /*@ assert ARRAYS_STAY(device); */
     /*@ assert goes_to(answer, device); */
 }
 
@@ -822,6 +830,9 @@ static uint32_t obey_higher(struct cue_device *device, const struct cue_place *f
     /*@ assert \forall integer k; 0 <= k < order.bytes_length ==>
           device->bytes[k] == \at(datagram[order.bytes_at + k], Pre); */
     /*@ assert \forall integer k; order.bytes_length <= k < 32 ==> device->bytes[k] == 0; */
+    /*@ assert \forall integer k; 0 <= k < order.cue_length ==> device->cue[k] == \at(datagram[32 + k], Pre); */
+    /*@ assert \forall integer k; 0 <= k < order.bytes_length ==>
+          device->bytes[k] == \at(datagram[blob_at(order.cue_length) + 4 + k], Pre); */
     /*@ assert heard_new{Pre, Here}(device, datagram, order.attempt, order.cue_length, order.bytes_length); */
     return take(device, from, cell, answer);
 }

@@ -135,7 +135,7 @@ pub extern "C" fn cue_device_prepared(device: &mut CueDevice, answer: &mut CueAn
 {
     if device.doing != PREPARE {
         *answer = CueAnswer::none();
-        return BAD_CALL;
+        return BAD_CALL; // it does not prepare
     }
     match device.read() {
         Some(mut state) => match state.prepared() {
@@ -163,7 +163,7 @@ pub extern "C" fn cue_device_moved(device: &mut CueDevice, answer: &mut CueAnswe
 {
     if device.doing != MOVE {
         *answer = CueAnswer::none();
-        return BAD_CALL;
+        return BAD_CALL; // it does not move
     }
     match device.read() {
         Some(mut state) => match state.moved() {
@@ -191,7 +191,7 @@ pub extern "C" fn cue_device_gave_up(device: &mut CueDevice, answer: &mut CueAns
 {
     if device.doing != GIVE_UP {
         *answer = CueAnswer::none();
-        return BAD_CALL;
+        return BAD_CALL; // it gives nothing up
     }
     match device.read() {
         Some(mut state) => match state.gave_up() {

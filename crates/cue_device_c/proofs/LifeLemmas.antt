@@ -209,9 +209,9 @@ heard : (datagram : List ℕ) (from : CuePlace) (d : Device) (old new : CueDevic
     → HearsDatagram datagram d x.after x.order (sent_bytes answer) → Goes d new given
 heard datagram from d old new answer given may x (inl it) =
     let last : new.last ≡ (after_command it.command d).last =
-        ap (λ (s : CueDevice). s.last) x.state ∙ ap (λ (e : Device). e.last) it.state in
+    ap (λ (s : CueDevice). s.last) x.state ∙ ap (λ (e : Device). e.last) it.state in
     let code : given ≡ order_code (what_comes_of it.command d).order =
-        x.result ∙ ap (λ (o : Option Order). order_code o) it.ordered in
+    x.result ∙ ap (λ (o : Option Order). order_code o) it.ordered in
     becomes (Some (hears it.command)) d x.after new given new.controller old.only tt x.state it.state
     (ap (λ (g : ℕ). order_of g new.last) code
     ∙ ap (λ (n : ℕ). order_of (order_code (what_comes_of it.command d).order) n) last

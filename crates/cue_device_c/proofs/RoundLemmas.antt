@@ -83,8 +83,12 @@ first_of_both false b h = h
 cue_fits : (task : Option Task) → HasTask task → fits_cue (cue_length task) (cue_places task) ≡ true
 cue_fits None h = refl
 cue_fits (Some task) h =
-    rw (cue_is_some task.cue h.cue, front_again task.cue (replicate (MAX_CUE_BYTES - length task.cue) 0), h.cue,
-    first_of_both (nat_le (length task.cue) MAX_CUE_BYTES) _ h.cue) refl
+    rw (
+      cue_is_some task.cue h.cue,
+      front_again task.cue (replicate (MAX_CUE_BYTES - length task.cue) 0),
+      h.cue,
+      first_of_both (nat_le (length task.cue) MAX_CUE_BYTES) _ h.cue,
+    ) refl
 
 bytes_fit : (task : Option Task) → HasTask task → nat_le (bytes_length task) MAX_PART_BYTES ≡ true
 bytes_fit None h = refl
@@ -99,8 +103,11 @@ task_again : (task : Option Task) → HasTask task
     → read_task (cue_length task) (bytes_length task) (cue_places task) (bytes_places task) ≡ task
 task_again None h = refl
 task_again (Some task) h =
-    rw (cue_is_some task.cue h.cue, front_again task.cue (replicate (MAX_CUE_BYTES - length task.cue) 0),
-    front_again task.bytes (replicate (MAX_PART_BYTES - length task.bytes) 0)) refl
+    rw (
+      cue_is_some task.cue h.cue,
+      front_again task.cue (replicate (MAX_CUE_BYTES - length task.cue) 0),
+      front_again task.bytes (replicate (MAX_PART_BYTES - length task.bytes) 0),
+    ) refl
 
 attempt_again : (a : Option Attempt) → attempt_in (phase_now a) (task_now a) ≡ a
 attempt_again None = refl
@@ -110,13 +117,24 @@ attempt_again (Some a) = refl
 
 pub fits_again : (d : Device) (controller only : CuePlace) → MayBe d → fits (numbers_of d controller only) ≡ true
 fits_again d controller only may =
-    rw (le-leb d.number MAX_DEVICE_NUMBER may.number, phase_is_one (phase_now d.attempt), order_is_one d.doing,
-    bit_is_one d.unheard, bytes_fit (task_now d.attempt) may.task, cue_fits (task_now d.attempt) may.task) refl
+    rw (
+      le-leb d.number MAX_DEVICE_NUMBER may.number,
+      phase_is_one (phase_now d.attempt),
+      order_is_one d.doing,
+      bit_is_one d.unheard,
+      bytes_fit (task_now d.attempt) may.task,
+      cue_fits (task_now d.attempt) may.task,
+    ) refl
 
 parts_again : (d : Device) (controller only : CuePlace) → MayBe d → device_in (numbers_of d controller only) ≡ d
 parts_again d controller only may =
-    rw (phase_again (phase_now d.attempt), task_again (task_now d.attempt) may.task, attempt_again d.attempt,
-    order_again d.doing, bit_again d.unheard) refl
+    rw (
+      phase_again (phase_now d.attempt),
+      task_again (task_now d.attempt) may.task,
+      attempt_again d.attempt,
+      order_again d.doing,
+      bit_again d.unheard,
+    ) refl
 
 pub stand_for_it : (d : Device) (controller only : CuePlace) → MayBe d
     → device_of (numbers_of d controller only) ≡ Some d

@@ -9,7 +9,9 @@ pub const BAD_CALL: u32 = 4;
 
 /// The orders to the machine, as `doing` has them: `CUE_PREPARE`, `CUE_MOVE`, `CUE_GIVE_UP`.
 pub const PREPARE: u32 = 1;
+
 pub const MOVE: u32 = 2;
+
 pub const GIVE_UP: u32 = 3;
 
 // `enum cue_phase`: the phase of an attempt, 0 if there is none.

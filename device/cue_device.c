@@ -830,9 +830,6 @@ static uint32_t obey_higher(struct cue_device *device, const struct cue_place *f
     /*@ assert \forall integer k; 0 <= k < order.bytes_length ==>
           device->bytes[k] == \at(datagram[order.bytes_at + k], Pre); */
     /*@ assert \forall integer k; order.bytes_length <= k < 32 ==> device->bytes[k] == 0; */
-    /*@ assert \forall integer k; 0 <= k < order.cue_length ==> device->cue[k] == \at(datagram[32 + k], Pre); */
-    /*@ assert \forall integer k; 0 <= k < order.bytes_length ==>
-          device->bytes[k] == \at(datagram[blob_at(order.cue_length) + 4 + k], Pre); */
     /*@ assert heard_new{Pre, Here}(device, datagram, order.attempt, order.cue_length, order.bytes_length); */
     return take(device, from, cell, answer);
 }

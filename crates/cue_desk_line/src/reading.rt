@@ -25,7 +25,7 @@ use cue_operator::CueVerb;
 use cue_show::{CueNo, DeviceNo};
 use pressing::pressed_in;
 use rehearsing::rehearsal_in;
-use reporting::{asker_in, asker_said, report_in};
+use reporting::{asker_in, asker_said, mark_in, report_in};
 use sheet::{new_in, sheet_in};
 use std::alloc::Global;
 use web::web_in;
@@ -239,6 +239,7 @@ fn file_line_in(
         "rehearse" => Some(rehearsal_in(alloc, found)),
         "relay" => Some(relay_in(alloc, found)),
         "report" => Some(report_in(alloc, found)),
+        "mark" => Some(mark_in(alloc, found)),
         _ => None,
     }
 }

@@ -19,8 +19,8 @@ use std::alloc::AllocError;
 
 pub mod laws;
 
-/// The front of a page, up to its title. The policy lets a browser take nothing from anywhere, and run nothing.
-pub const HEAD: &str = r#"<!DOCTYPE html>
+// The front of a page, up to its title. The policy lets a browser take nothing from anywhere, and run nothing.
+const HEAD: &str = r#"<!DOCTYPE html>
 <html lang="en">
 <head>
 <meta charset="utf-8">

@@ -1,3 +1,4 @@
+pub mod DrawingLemmas
 pub mod FailureLemmas
 pub mod LawLemmas
 pub mod PlaceLemmas

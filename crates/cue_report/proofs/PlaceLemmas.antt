@@ -1,7 +1,7 @@
 -- What is changed at one place of a list, and what follows from a call that met no fault.
 use Rattle.std.proofs.Common.{◌≡◌, ℕ, ◌<◌, zero, suc, List, [], ◌∷◌, length, map, refl, ap, arith, slice_index_or, slice_set, OnOk}
 use Rattle.std.proofs.lemmas.Result.{on_ok_weaker}
-use Rattle.std.specs.Prelude.{Result}
+use Rattle.std.specs.Prelude.{Err, Ok, Result}
 use Rattle.cue_report.specs.Picture.{changed_at}
 
 -- a thing of a list is changed by writing it there, seen by view
@@ -19,3 +19,8 @@ changed_past_end view change (x ∷ xs) (suc place) past = ap (λ ys. view x ∷
 -- what follows where a call met no fault
 pub after_ok : {T E P Q : Type 0} (r : Result T E) → OnOk r P → (P → Q) → OnOk r Q
 after_ok r h f = on_ok_weaker r f h
+
+-- what holds anyway
+pub always : {T E P : Type 0} (r : Result T E) → P → OnOk r P
+always (Ok x) h = h
+always (Err e) h = tt

@@ -62,15 +62,6 @@ after_ready at c = record c { ready = first_of c.ready at }
 abbrev pub after_done : ℕ → Course → Course
 after_done at c = record c { done = first_of c.done at }
 
--- a cue that was given went without the device
-abbrev pub is_excused : Fate → Bool
-is_excused fate.Well = false
-is_excused fate.AbortedEarly = true
-is_excused fate.ReleasedEarly = true
-is_excused fate.Aborted = false
-is_excused fate.Released = false
-is_excused fate.Failed = false
-
 -- the device failed after the go
 abbrev pub is_failed : Fate → Bool
 is_failed fate.Well = false

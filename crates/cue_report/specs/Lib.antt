@@ -1,7 +1,15 @@
+pub mod Asking
+pub mod Csv
+pub mod Dates
+pub mod Drawing
+pub mod Evening
 pub mod Following
 pub mod Laws
+pub mod Marks
 pub mod Picture
 pub mod Range
+pub mod Reading
 pub mod Running
 pub mod Seen
+pub mod Summary
 pub mod Telling

@@ -282,9 +282,4 @@ impl Attempts {
     {
         &self.list
     }
-
-    /// The same, one after the other.
-    pub fn iter(&self) -> std::slice::Iter<'_, Attempt> {
-        self.list.iter()
-    }
 }

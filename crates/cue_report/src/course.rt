@@ -1,5 +1,5 @@
 //! What a device does in an attempt, as the report follows it.
-ghost use Rattle.std.specs.Prelude.{◌≡◌, ◌-◌, OnOk, find, nat_eq, position};
+ghost use Rattle.std.specs.Prelude.{◌≡◌, OnOk, find, nat_eq, position};
 ghost use Rattle.cue_report.specs.Following as spec;
 ghost use Rattle.cue_report.specs.Seen as seen;
 
@@ -27,16 +27,6 @@ pub enum Fate {
 }
 
 impl Fate {
-    /// Whether a cue that was given went without the device.
-    pub fn is_excused(self) -> bool
-        ensures { result ≡ spec.is_excused self }
-    {
-        match self {
-            Fate::AbortedEarly | Fate::ReleasedEarly => true,
-            Fate::Well | Fate::Aborted | Fate::Released | Fate::Failed => false,
-        }
-    }
-
     /// Whether the device failed after the go.
     pub fn is_failed(self) -> bool
         ensures { result ≡ spec.is_failed self }
@@ -73,19 +63,12 @@ pub fn fate_of(cause: Cause) -> Fate
     }
 }
 
-/// How many seconds lie between two lines of the log; 0 if the clock was put back between them.
-pub fn seconds_between(from: u64, to: u64) -> u64
-    ensures { result ≡ to - from }
-{
-    to.saturating_sub(from)
-}
-
-// How many seconds lie between two lines that may be there.
+// How many seconds lie between two lines, if both are there; 0 if the clock was put back between them.
 fn span(from: Option<u64>, to: Option<u64>) -> Option<u64>
     ensures { result ≡ spec.span from to }
 {
     match (from, to) {
-        (Some(from), Some(to)) => Some(seconds_between(from, to)),
+        (Some(from), Some(to)) => Some(to.saturating_sub(from)),
         _ => None,
     }
 }

@@ -1,124 +1,60 @@
 //! The report as a table of values that are separated by commas, a row for each attempt: for a spreadsheet.
-use crate::attempt::{Attempt, Moment};
-use crate::evening::Evening;
-use crate::names::Names;
-use crate::sentences::{Told, course_words, device_words, ending_words, who_words};
-use crate::text::told_of;
-use cue_words::shown_text;
-use std::alloc::{AllocError, Global};
-use std::fmt::Write;
+ghost use Rattle.std.specs.Prelude.{◌≡◌, ◌++◌, OnOk, string_bytes};
+ghost use Rattle.std.specs.Str.{encode_utf8_all};
+ghost use Rattle.cue_report.specs.Csv as spec;
 
-/// The names of the columns.
-pub const HEAD: &str =
-    "attempt,cue,name,stood by,by,given,by,given up,by,ended,how,seconds after standby,why,devices\r\n";
+use crate::columns::{TABLE, row_of};
+use crate::evening::Evening;
+use crate::sentences::{Told, Words};
+use cue_words::shown;
+use std::alloc::AllocError;
 
 // Whether a spreadsheet could take a text for something to be carried out.
-fn is_formula(text: &str) -> bool {
+fn is_formula(text: &str) -> bool
+    ensures { result ≡ spec.is_formula text.now }
+{
     matches!(text.as_bytes(), [b'=' | b'+' | b'-' | b'@', ..])
 }
 
-// Puts a text between quotation marks after a row. Each of its own is doubled, and what a spreadsheet could carry out
-// has an apostrophe before it.
-fn push_quoted(row: &mut String, text: &str) -> Result<(), AllocError> {
-    row.push('"')?;
-    if is_formula(text) {
-        row.push('\'')?;
+// Puts a sign of a value after a table: a quotation mark is doubled.
+fn push_sign(table: &mut String, sign: char) -> Result<(), AllocError>
+    ensures { OnOk result (string_bytes table.new ≡ string_bytes table.old ++ encode_utf8_all (spec.sign_of sign)) }
+{
+    match sign {
+        '"' => table.push_str("\"\""),
+        _ => table.push(sign),
     }
+}
+
+// Puts a value between quotation marks after a table. What a spreadsheet could carry out has an apostrophe before it.
+fn push_value(table: &mut String, text: &str) -> Result<(), AllocError> {
+    table.push_str(if is_formula(text) { "\"'" } else { "\"" })?;
     for c in text.chars() {
-        if c == '"' {
-            row.push('"')?;
-        }
-        row.push(c)?;
+        push_sign(table, shown(c))?;
     }
-    row.push('"')
+    table.push('"')
 }
 
-// Puts a value after a row, with a comma before it.
-fn push_field(alloc: Global, row: &mut String, text: &str) -> Result<(), AllocError> {
-    row.push(',')?;
-    let shown = shown_text(alloc, text)?;
-    push_quoted(row, shown.as_str())
+// Puts a row after a table.
+fn push_row(table: &mut String, cells: &[String]) -> Result<(), AllocError> {
+    for (place, cell) in cells.iter().enumerate() {
+        table.push_str(if place > 0 { "," } else { "" })?;
+        push_value(table, cell.as_str())?;
+    }
+    table.push_str("\r\n")
 }
 
-// Puts when something was done and who asked for it after a row.
-fn push_moment(
-    alloc: Global,
-    row: &mut String,
-    told: Told<'_>,
-    moment: Option<Moment>,
-) -> Result<(), AllocError> {
-    match moment {
-        Some(moment) => {
-            let clock = told.times.moment(alloc, moment.at)?;
-            push_field(alloc, row, clock.as_str())?;
-            let by = who_words(alloc, told.names, moment.by)?;
-            push_field(alloc, row, by.as_str())
-        }
-        None => row.push_str(",,"),
+/// The whole table, with the names of its columns.
+pub fn table_of(told: Told<'_>, evening: &Evening) -> Words {
+    let mut table = String::new(told.alloc);
+    table.push_str("attempt")?;
+    for (_, name) in &TABLE {
+        table.push(',')?;
+        table.push_str(name)?;
     }
-}
-
-// Puts when and how an attempt ended after a row.
-fn push_end(
-    alloc: Global,
-    row: &mut String,
-    told: Told<'_>,
-    attempt: &Attempt,
-) -> Result<(), AllocError> {
-    match attempt.ended {
-        Some(ended) => {
-            let clock = told.times.moment(alloc, ended.at)?;
-            push_field(alloc, row, clock.as_str())?;
-        }
-        None => row.push(',')?,
+    table.push_str("\r\n")?;
+    for attempt in evening.attempts.list() {
+        push_row(&mut table, &row_of(told, attempt, &TABLE)?)?;
     }
-    push_field(alloc, row, ending_words(attempt.ended))?;
-    match attempt.after {
-        Some(after) => write!(row, ",{}.{}", after.seconds, after.tenths),
-        None => row.push(','),
-    }
-}
-
-// What the devices of an attempt did.
-fn devices_words(alloc: Global, told: Told<'_>, attempt: &Attempt) -> Result<String, AllocError> {
-    let mut text = String::new(alloc);
-    for course in attempt.devices.iter() {
-        if !text.is_empty() {
-            text.push_str("; ")?;
-        }
-        let device = device_words(alloc, told.names, course.device)?;
-        let said = course_words(alloc, course, attempt.given.is_some())?;
-        write!(text, "{}: {}", device.as_str(), said.as_str())?;
-    }
-    Ok(text)
-}
-
-/// The row of an attempt.
-pub fn attempt_row(
-    alloc: Global,
-    evening: &Evening,
-    names: &Names<'_>,
-    attempt: &Attempt,
-) -> Result<String, AllocError> {
-    let told = told_of(evening, names);
-    let mut row = format!(in alloc; "{},", attempt.number)?;
-    match &attempt.cue {
-        Some(cue) => {
-            write!(row, "{}", cue.text().escape_ascii())?;
-            push_field(alloc, &mut row, names.cue_name(cue))?;
-        }
-        None => row.push(',')?,
-    }
-    push_moment(alloc, &mut row, told, attempt.begun)?;
-    push_moment(alloc, &mut row, told, attempt.given)?;
-    push_moment(alloc, &mut row, told, attempt.given_up)?;
-    push_end(alloc, &mut row, told, attempt)?;
-    push_field(alloc, &mut row, attempt.why.as_str())?;
-    push_field(
-        alloc,
-        &mut row,
-        devices_words(alloc, told, attempt)?.as_str(),
-    )?;
-    row.push_str("\r\n")?;
-    Ok(row)
+    Ok(table)
 }

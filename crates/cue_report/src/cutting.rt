@@ -1,4 +1,8 @@
 //! Cuts the bytes of a log into lines, as they come.
+ghost use Rattle.std.specs.Prelude.{◌≡◌, ◌+◌, ◌<◌, ◌≤◌, ◌==◌, ◌++◌, ◌&&◌, if◌then◌else◌, [], None, OnOk, Some};
+ghost use Rattle.std.specs.Prelude.{false, length, not, true};
+ghost use Rattle.std.specs.Option.{option_map};
+
 use std::alloc::{AllocError, Global};
 
 /// The most bytes of a line that are kept. No line of the log is as long: what is longer is none.
@@ -14,32 +18,45 @@ pub struct Cutter {
 
 impl Cutter {
     /// Nothing came yet.
-    pub fn new(alloc: Global) -> Cutter {
+    pub fn new(alloc: Global) -> Cutter
+        ensures none { result.front.items ≡ [] }
+        ensures whole { result.is_long ≡ false }
+    {
         Cutter {
             front: Vec::new(alloc),
             is_long: false,
         }
     }
 
-    /// Puts a piece after what is there, up to the most bytes of a line.
-    pub fn push(&mut self, piece: &[u8]) -> Result<(), AllocError> {
-        let room = MAX_LINE.saturating_sub(self.front.len());
-        match piece.split_at_checked(room) {
-            Some((fits, rest)) => {
-                self.is_long = self.is_long || !rest.is_empty();
-                self.front.extend_from_slice(fits)
-            }
-            None => self.front.extend_from_slice(piece),
+    /// Puts a piece after what is there. A line that gets longer than a line may be is none from then on.
+    pub fn push(&mut self, piece: &[u8]) -> Result<(), AllocError>
+        ensures kept { OnOk result (length self.old.front.items + length piece.now ≤ MAX_LINE →
+            self.new.front.items ≡ self.old.front.items ++ piece.now) }
+        ensures whole { OnOk result (length self.old.front.items + length piece.now ≤ MAX_LINE →
+            self.new.is_long ≡ self.old.is_long) }
+        ensures long { OnOk result (MAX_LINE < length self.old.front.items + length piece.now →
+            self.new.is_long ≡ true) }
+    {
+        let length = self.front.len().saturating_add(piece.len());
+        if length > MAX_LINE {
+            self.is_long = true;
+            return Ok(());
         }
+        self.front.extend_from_slice(piece)
     }
 
     /// Whether nothing is there.
-    pub fn is_empty(&self) -> bool {
+    pub fn is_empty(&self) -> bool
+        ensures { result ≡ ((length self.now.front.items == 0) && not self.now.is_long) }
+    {
         self.front.is_empty() && !self.is_long
     }
 
-    /// The line that is there, if no byte of it was dropped.
-    pub fn line(&self) -> Option<&[u8]> {
+    /// The line that is there, if it is not too long.
+    pub fn line(&self) -> Option<&[u8]>
+        ensures { option_map (λ x. x.now) result ≡
+            (if self.now.is_long then None else Some self.now.front.items) }
+    {
         if self.is_long {
             None
         } else {
@@ -48,7 +65,10 @@ impl Cutter {
     }
 
     /// Begins the next line.
-    pub fn clear(&mut self) {
+    pub fn clear(&mut self)
+        ensures none { self.new.front.items ≡ [] }
+        ensures whole { self.new.is_long ≡ false }
+    {
         self.front.clear();
         self.is_long = false;
     }

@@ -1,4 +1,8 @@
 //! The evening: what the lines of a log say together.
+ghost use Rattle.std.specs.Prelude.{◌≡◌, ◌<◌, ◌≤◌, ◌++◌, ◌∷◌, ◌+◌, [], OnOk, if◌then◌else◌, length, map};
+ghost use Rattle.cue_report.specs.Evening as spec;
+ghost use Rattle.cue_report.specs.Picture.{nothing, picture};
+
 mod asking;
 mod counting;
 mod following;
@@ -10,50 +14,30 @@ use crate::attempt::Who;
 use crate::attempts::Attempts;
 use crate::cutting::Cutter;
 use crate::dates::{Times, of_day};
+use crate::marks::{Mark, read_mark};
 use crate::range::Range;
 use asking::Asking;
 pub use counting::{Totals, totals_of};
 use repeating::Repeats;
 use std::alloc::{AllocError, Global};
 
-/// The most starts, stops and refusals that are kept, each; others are counted.
+/// The most things that `serve` did, and the most refusals, that are kept; others are counted.
 const MOST: usize = 1_000;
-
-/// What `serve` did.
-#[derive(Drop)]
-pub enum Deed {
-    /// It began to serve a folder at a port. `silent` is the second of the line before, if `serve` ended without a
-    /// word.
-    Began {
-        dir: String,
-        port: u16,
-        silent: Option<u64>,
-    },
-    /// The service was stopped.
-    Stopped,
-    /// It ended by itself, and printed this.
-    Ended(String),
-    /// It says this of itself, or of what was live when it began.
-    Said(String),
-}
 
 /// What `serve` did, and when, in seconds since 1970.
 #[derive(Drop)]
 pub struct Done {
     pub at: u64,
-    pub deed: Deed,
+    pub said: String,
 }
 
-/// A command that was refused, or several that the log counted: then no one asked, there is no address, and the code
-/// is 0.
+/// A command that was refused, or several that the log counted: then nobody is seen who asked.
 #[derive(Drop)]
 pub struct Refusal {
     pub at: u64,
     pub by: Who,
-    /// The address, `-` if a datagram was refused whole.
-    pub address: String,
-    pub code: u16,
-    pub why: String,
+    /// Its address, code and reason.
+    pub said: String,
 }
 
 /// How many lines there were of each kind.
@@ -77,25 +61,24 @@ pub struct Kept<T> {
 }
 
 impl<T: Drop> Kept<T> {
-    fn new(alloc: Global) -> Kept<T> {
+    fn new(alloc: Global) -> Kept<T>
+        ensures { result.items.items ≡ [] }
+    {
         Kept {
             items: Vec::new(alloc),
             more: 0,
         }
     }
 
-    // Whether the next one is kept. If not, it is counted here.
-    fn has_room(&mut self) -> bool {
+    // Keeps the next one, or counts it.
+    fn push(&mut self, item: T) -> Result<(), AllocError>
+        ensures { OnOk result (self.new.items.items ≡
+            (if spec.has_room self.old.items.items then self.old.items.items ++ item ∷ [] else self.old.items.items)) }
+    {
         if self.items.len() < MOST {
-            return true;
-        }
-        self.more = self.more.saturating_add(1);
-        false
-    }
-
-    fn push(&mut self, item: T) -> Result<(), AllocError> {
-        if self.has_room() {
             self.items.push(item)?;
+        } else {
+            self.more = self.more.saturating_add(1);
         }
         Ok(())
     }
@@ -124,11 +107,22 @@ pub struct Evening {
     pub refusals: Kept<Refusal>,
     /// How many refusals there were, with those that the log counted and did not tell.
     pub refused: u64,
+    /// When the curtain went up and down, in this order, and how many lines of the marks are none.
+    pub marks: Vec<Mark>,
+    pub unread_marks: u64,
 }
 
 impl Evening {
     /// An evening of which nothing was heard.
-    pub fn new(alloc: Global) -> Evening {
+    pub fn new(alloc: Global) -> Evening
+        ensures { picture result.attempts ≡ nothing }
+    {
+        let counts = Counts {
+            told: 0,
+            others: 0,
+            repeated: 0,
+            outside: 0,
+        };
         Evening {
             alloc,
             cutter: Cutter::new(alloc),
@@ -138,23 +132,22 @@ impl Evening {
             is_repeating: false,
             ahead: 0,
             range: Range::DAY,
-            counts: Counts {
-                told: 0,
-                others: 0,
-                repeated: 0,
-                outside: 0,
-            },
+            counts,
             first: None,
             last: None,
             deeds: Kept::new(alloc),
             attempts: Attempts::new(alloc),
             refusals: Kept::new(alloc),
             refused: 0,
+            marks: Vec::new(alloc),
+            unread_marks: 0,
         }
     }
 
     /// How the times of the evening are shown.
-    pub fn times(&self) -> Times {
+    pub fn times(&self) -> Times
+        ensures { result ≡ spec.times self.now.ahead self.now.first }
+    {
         Times {
             ahead: self.ahead,
             first: self.first.unwrap_or(0),
@@ -162,7 +155,21 @@ impl Evening {
     }
 
     // Whether what was written at a second is told.
-    fn is_told(&self, at: u64) -> bool {
+    fn is_told(&self, at: u64) -> bool
+        ensures { result ≡ spec.is_told self.now.range self.now.ahead at }
+    {
         self.range.has(of_day(self.times().shown(at)))
+    }
+
+    /// Hears a line of the marks. One of another time of the day is left out.
+    pub fn mark(&mut self, line: &[u8]) -> Result<(), AllocError>
+        ensures { picture self.new.attempts ≡ picture self.old.attempts }
+    {
+        match read_mark(line) {
+            Some(mark) if self.is_told(mark.at) => self.marks.push(mark)?,
+            Some(_) => {}
+            None => self.unread_marks = self.unread_marks.saturating_add(1),
+        }
+        Ok(())
     }
 }

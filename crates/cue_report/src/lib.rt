@@ -1,15 +1,14 @@
-//! The report of an evening, made of the log of `serve` and of a show file; and the names by which askers say who they
-//! are. Nothing here opens a file.
+//! The report of an evening, made of the log of `serve` and of a show file. Nothing here opens a file.
 //!
 //! `read` takes one line of the log and gives what it says (`cue_log_lines`) and when; a line that is none of the log
 //! gives none. An `Evening` takes the bytes of a log as they come and follows what the lines say: each attempt from its
 //! standby to its end, with each of its devices. It goes over the log once, and keeps its attempts and no lines; of
-//! refusals, starts and stops it keeps the first thousand, and counts the rest. `text` and `html` draw it, piece by
-//! piece: as text of 80 columns, and as one page that stands alone and has no script.
+//! refusals, starts and stops it keeps the first thousand, and counts the rest. It is drawn as `text` of 80 columns, as
+//! one `html` page that stands alone and has no script, and as a `csv` table.
 //!
 //! Why it is so:
 //! - The log is what was said at the time, and the store has only what is left. So the report is made of the log alone;
-//!   the show file gives names, and which cues were never given.
+//!   the show file gives names, and which cues were never given; marks say when the curtain went up and down.
 //! - A line that cannot be read is counted and never an error: a journal has lines of others, and a power cut may leave
 //!   half a line. If the next start stands behind half a line, as after a full disk, it is found.
 //! - An attempt is found by its number, and the numbers of a store rise. A line that names an attempt that the log did
@@ -19,17 +18,14 @@
 //!   is passed over.
 //! - Who asks has a port and no name. One that sends `/as/NAME` first, which `serve` refuses and so writes into its
 //!   log, has that name for ten seconds: the system gives its port to others later.
-//! - Texts of the log and of the show file go through `shown_text` in both drawings, and through `cue_html` in the
-//!   page.
 //!
 //! `attempts` takes a line at a time, and `specs/` says what that makes of what is told (`Seen` of one attempt,
 //! `Picture` of all). `laws` says what may be told after any lines.
-//!
-//! Only tested: which bytes are heard as lines, who asked, how the lines are laid out, and which text stands where.
 #![tactic(auto)]
 
 mod attempt;
 mod attempts;
+mod columns;
 mod course;
 pub mod csv;
 mod cutting;
@@ -37,20 +33,22 @@ mod dates;
 mod evening;
 pub mod html;
 pub mod laws;
+pub mod marks;
 mod names;
+mod parts;
 mod range;
 mod reading;
 mod running;
 mod sentences;
 mod summary;
 pub mod text;
-mod ungiven;
-mod wrapping;
 
 pub use attempt::{Attempt, Moment, Who};
 pub use attempts::Attempts;
-pub use course::{Course, Fate, seconds_between};
+pub use course::{Course, Fate};
+pub use dates::printed_words;
 pub use evening::Evening;
 pub use names::Names;
 pub use range::Range;
 pub use reading::{Dated, Said, read};
+pub use sentences::Told;

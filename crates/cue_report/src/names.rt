@@ -5,63 +5,59 @@ use std::alloc::{AllocError, Global};
 
 /// The names of a show file, and which cues it has.
 #[derive(Drop)]
-pub struct Names<'a> {
+pub struct Names {
     /// What the show is called; empty if that is not said.
-    pub title: &'a str,
-    texts: Vec<&'a str>,
-    // For each cue and each device the place of its name, in the order of the file.
-    cues: IndexMap<CueNo, usize>,
-    devices: IndexMap<DeviceNo, usize>,
+    pub title: String,
+    // In the order of the file.
+    cues: IndexMap<CueNo, String>,
+    devices: IndexMap<DeviceNo, String>,
 }
 
-impl<'a> Names<'a> {
-    /// A file without cues and devices.
-    pub fn new(alloc: Global) -> Names<'a> {
-        Names {
-            title: "",
-            texts: Vec::new(alloc),
+// A name that may be there; empty if it is not.
+fn text_of(name: Option<&String>) -> &str {
+    match name {
+        Some(name) => name.as_str(),
+        None => "",
+    }
+}
+
+impl Names {
+    /// A file without cues and devices, of a show that is called so.
+    pub fn new(alloc: Global, title: &str) -> Result<Names, AllocError> {
+        Ok(Names {
+            title: String::from_str(alloc, title)?,
             cues: IndexMap::new(alloc),
             devices: IndexMap::new(alloc),
-        }
-    }
-
-    // Keeps a name, and answers its place.
-    fn keep(&mut self, name: &'a str) -> Result<usize, AllocError> {
-        let place = self.texts.len();
-        self.texts.push(name)?;
-        Ok(place)
+        })
     }
 
     /// The file has this cue next, and calls it so; empty if it has no name.
-    pub fn add_cue(&mut self, cue: &CueNo, name: &'a str) -> Result<(), AllocError> {
-        let place = self.keep(name)?;
-        let _ = self.cues.insert(*cue, place)?;
+    pub fn add_cue(&mut self, alloc: Global, cue: &CueNo, name: &str) -> Result<(), AllocError> {
+        let _ = self.cues.insert(*cue, String::from_str(alloc, name)?)?;
         Ok(())
     }
 
     /// The file has this device, and calls it so; empty if it has no name.
-    pub fn add_device(&mut self, device: &DeviceNo, name: &'a str) -> Result<(), AllocError> {
-        let place = self.keep(name)?;
-        let _ = self.devices.insert(*device, place)?;
+    pub fn add_device(
+        &mut self,
+        alloc: Global,
+        device: &DeviceNo,
+        name: &str,
+    ) -> Result<(), AllocError> {
+        let _ = self
+            .devices
+            .insert(*device, String::from_str(alloc, name)?)?;
         Ok(())
     }
 
-    // The name at a place; empty if there is none.
-    fn text_at(&self, place: Option<&usize>) -> &'a str {
-        match place {
-            Some(place) => self.texts.get(*place).copied().unwrap_or(""),
-            None => "",
-        }
-    }
-
     /// What the file calls the cue; empty if it has no name or is not there.
-    pub fn cue_name(&self, cue: &CueNo) -> &'a str {
-        self.text_at(self.cues.get(cue))
+    pub fn cue_name(&self, cue: &CueNo) -> &str {
+        text_of(self.cues.get(cue))
     }
 
     /// What the file calls the device; empty if it has no name or is not there.
-    pub fn device_name(&self, device: &DeviceNo) -> &'a str {
-        self.text_at(self.devices.get(device))
+    pub fn device_name(&self, device: &DeviceNo) -> &str {
+        text_of(self.devices.get(device))
     }
 
     /// The place of a cue in the file; none if the file does not have it.

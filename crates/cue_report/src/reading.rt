@@ -1,4 +1,7 @@
 //! Reads a line of the log with its date.
+ghost use Rattle.std.specs.Prelude.{IfOk, IfSome};
+ghost use Rattle.cue_report.specs.Reading.{IsSaidBy};
+
 use crate::dates::{DATE, dated};
 use cue_log_lines::Line;
 use std::alloc::{AllocError, Global};
@@ -20,7 +23,9 @@ pub struct Dated<'a> {
 }
 
 // A line that has no date: what `serve` prints when it ends by itself.
-fn read_undated(line: &[u8]) -> Option<Dated<'_>> {
+fn read_undated(line: &[u8]) -> Option<Dated<'_>>
+    ensures { IfSome result (λ d. IsSaidBy line.now d.said) }
+{
     if line.starts_with(b"! ".as_slice()) || line.starts_with(b"turns ".as_slice()) {
         Some(Dated {
             at: None,
@@ -32,7 +37,9 @@ fn read_undated(line: &[u8]) -> Option<Dated<'_>> {
 }
 
 /// What a line says, without its end; none if it is no line of the log.
-pub fn read(alloc: Global, line: &[u8]) -> Result<Option<Dated<'_>>, AllocError> {
+pub fn read(alloc: Global, line: &[u8]) -> Result<Option<Dated<'_>>, AllocError>
+    ensures { IfOk result (λ read. IfSome read (λ d. IsSaidBy line.now d.said)) }
+{
     let Some((at, text)) = dated(line) else {
         return Ok(read_undated(line));
     };

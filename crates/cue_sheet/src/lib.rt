@@ -1,4 +1,5 @@
-//! The cue sheet of a show file: what people print before an evening. As lines of 80 columns, and as one page of HTML
+//! The cue sheet of a show file: what people print before an evening, with room for what they write in by hand. As
+//! lines of 80 columns, and as one page of HTML
 //! that stands alone. Nothing here opens a file.
 //!
 //! Why it is so:
@@ -11,11 +12,9 @@
 //! Only tested: which words stand where, and the page in a browser.
 #![tactic(auto)]
 
-mod cells;
 mod page;
 mod sent;
 mod text;
-mod wrapping;
 
 pub use page::sheet_page;
 pub use sent::sent_text;

@@ -3,12 +3,19 @@ mod style;
 
 use crate::sent::sent_text;
 use crate::text::{place_text, together_text};
-use cue_html::{HEAD, push_escaped};
+use cue_html::{push_element, push_escaped, push_head};
 use cue_show::Part;
 use cue_show_file::{CueEntry, DeviceEntry, Form, ShowFile, cue_text};
 use std::alloc::{AllocError, Global};
 use std::fmt::Write;
 use style::STYLE;
+
+/// What is written in by hand at the head of the page.
+const WRITTEN: &str = r#"</p>
+<table class="written">
+<tr><td>Date</td><td>Show no.</td><td>Called by</td></tr>
+</table>
+"#;
 
 /// What stands before the rows of the devices.
 const DEVICES: &str = r#"<table class="devices">
@@ -23,7 +30,8 @@ const CUES: &str = r#"</tbody>
 </table>
 <table class="cues">
 <caption>Cues</caption>
-<thead><tr><th scope="col">Cue</th><th scope="col">Name and note</th>
+<thead><tr><th scope="col">Cue</th><th scope="col" class="room">Standby</th><th scope="col" class="room">GO</th>
+<th scope="col" class="room">Time</th><th scope="col">Name and note</th>
 <th scope="col" class="number">No.</th><th scope="col">Device</th><th scope="col">Sent</th>
 <th scope="col"></th></tr></thead>
 "#;
@@ -52,16 +60,10 @@ impl Page<'_> {
         self.text.push_str("</td>")
     }
 
-    fn push_head(&mut self, title: &str) -> Result<(), AllocError> {
-        self.text.push_str(HEAD)?;
-        self.text.push_str("<title>Cue sheet: ")?;
-        self.push_text(title)?;
-        write!(
-            self.text,
-            "</title>\n<style>{STYLE}</style>\n</head>\n<body>\n<h1>Cue sheet</h1>\n<p dir=\"auto\">"
-        )?;
-        self.push_text(title)?;
-        self.text.push_str("</p>\n")
+    fn push_head(&mut self, title: &str, printed: &str) -> Result<(), AllocError> {
+        push_head(&mut self.text, title, STYLE)?;
+        push_element(&mut self.text, "<h1 dir=\"auto\">", title, "</h1>\n")?;
+        push_element(&mut self.text, "<p>Cue sheet, ", printed, WRITTEN)
     }
 
     fn push_device(&mut self, entry: &DeviceEntry) -> Result<(), AllocError> {
@@ -147,7 +149,11 @@ impl Page<'_> {
         let rows = entry.parts.as_slice().len();
         write!(self.text, "<tr><th scope=\"rowgroup\" rowspan=\"{rows}\">")?;
         self.push_text(cue_text(&entry.number))?;
-        write!(self.text, "</th><td rowspan=\"{rows}\">")?;
+        let room = "<td class=\"room\" rowspan=";
+        write!(
+            self.text,
+            "</th>{room}\"{rows}\"></td>{room}\"{rows}\"></td>{room}\"{rows}\"></td><td rowspan=\"{rows}\">"
+        )?;
         self.push_signs(entry)?;
         self.text.push_str("</td>")
     }
@@ -175,15 +181,21 @@ impl Page<'_> {
     }
 }
 
-/// The page of a file that has no mistake, with this title. It stands alone, and each sheet of paper has the heads of
+/// The page of a file that has no mistake, with this title, and when it was printed. It stands alone, and each sheet of
+/// paper has the heads of
 /// its table.
-pub fn sheet_page(alloc: Global, title: &str, file: &ShowFile) -> Result<String, AllocError> {
+pub fn sheet_page(
+    alloc: Global,
+    title: &str,
+    printed: &str,
+    file: &ShowFile,
+) -> Result<String, AllocError> {
     let mut page = Page {
         alloc,
         file,
         text: String::new(alloc),
     };
-    page.push_head(title)?;
+    page.push_head(title, printed)?;
     page.push_devices()?;
     page.push_cues()?;
     let Page { text, .. } = page;

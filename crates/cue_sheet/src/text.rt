@@ -1,10 +1,12 @@
 //! The cue sheet as lines of a terminal, or of a printer.
-ghost use Rattle.std.specs.Prelude.{IfOk};
-ghost use Rattle.cue_board.specs.Columns.{AreFit};
+#![tactic(auto, using(cue_columns::proofs::ColumnLemmas::keeps_same, cue_columns::proofs::ColumnLemmas::keeps_then))]
 
-use crate::cells::{Cell, GAP, push_row};
+ghost use Rattle.std.specs.Prelude.{IfOk, OnOk};
+ghost use Rattle.cue_columns.specs.Columns.{AreFit, Keeps};
+
 use crate::sent::sent_text;
-use cue_board::{COLUMNS, fitted, with_words};
+use cue_board::with_words;
+use cue_columns::{COLUMNS, Cell, GAP, push_heading, push_line, push_row, push_texts};
 use cue_show::Part;
 use cue_show_file::{CueEntry, DeviceEntry, Form, ShowFile, cue_text};
 use std::alloc::{AllocError, Global};
@@ -20,6 +22,38 @@ const NAME: usize = 24;
 
 /// The columns of the word `optional`.
 const OPTIONAL: usize = 8;
+
+/// What is written in by hand beside a cue: that its standby and its GO were called, and when.
+#[derive(Clone, Copy)]
+struct Called {
+    standby: &'static str,
+    go: &'static str,
+    time: &'static str,
+}
+
+/// What stands over these columns.
+const OVER: Called = Called {
+    standby: "standby",
+    go: "GO",
+    time: "time",
+};
+
+/// The room for each of them.
+const ROOM: Called = Called {
+    standby: "[ ]",
+    go: "[ ]",
+    time: "________",
+};
+
+/// How wide they are.
+const STANDBY: usize = 7;
+
+const GO: usize = 3;
+
+const TIME: usize = 8;
+
+/// What is written in by hand at the head of the sheet.
+const HEAD: &str = "Date ____________  Show no. ______  Called by ________________________";
 
 /// The lines so far, and how wide the numbers of the cues are.
 #[derive(Drop)]
@@ -57,6 +91,14 @@ pub(crate) fn marks_text(alloc: Global, entry: &CueEntry) -> Result<String, Allo
     }
 }
 
+// The note of a cue; empty if it has none.
+fn note_text(alloc: Global, entry: &CueEntry) -> Result<String, AllocError> {
+    match &entry.note {
+        Some(note) => format!(in alloc; "Note: {}", note.as_str()),
+        None => Ok(String::new(alloc)),
+    }
+}
+
 /// With which cues a cue is stood by; empty if it is stood by alone.
 pub(crate) fn together_text(alloc: Global, entry: &CueEntry) -> Result<String, AllocError> {
     let others = entry.companions.as_slice();
@@ -68,27 +110,47 @@ pub(crate) fn together_text(alloc: Global, entry: &CueEntry) -> Result<String, A
 }
 
 impl Sheet<'_> {
-    // One line more.
-    fn push_line(&mut self, line: &str) -> Result<(), AllocError> {
-        self.lines.push(String::from_str(self.alloc, line)?)?;
-        Ok(())
-    }
-
     // The columns beside the number of a cue.
     fn beside(&self) -> usize {
         COLUMNS.saturating_sub(self.number.saturating_add(GAP))
     }
 
+    // Texts that have so many columns each.
+    fn row(&mut self, texts: &[(&str, usize)]) -> Result<(), AllocError>
+        ensures { OnOk result (Keeps self.old.lines.items self.new.lines.items) }
+    {
+        push_texts(self.alloc, &mut self.lines, texts)
+    }
+
     // A text beside the number of a cue; nothing if it is empty.
-    fn push_beside(&mut self, number: &str, text: &str) -> Result<(), AllocError> {
+    fn push_beside(&mut self, text: &str) -> Result<(), AllocError>
+        ensures { OnOk result (Keeps self.old.lines.items self.new.lines.items) }
+    {
+        if text.is_empty() {
+            return Ok(());
+        }
+        let (number, width) = (self.number, self.beside());
+        self.row(&[("", number), (text, width)])
+    }
+
+    // The number and the name of a cue, or what stands over them, and what is written in by hand.
+    fn push_called(&mut self, number: &str, name: &str, called: Called) -> Result<(), AllocError>
+        ensures { OnOk result (Keeps self.old.lines.items self.new.lines.items) }
+    {
+        let width = self.beside().saturating_sub(STANDBY + GO + TIME + 3 * GAP);
         let cells = [
             Cell::of(self.alloc, number, self.number)?,
-            Cell::of(self.alloc, text, self.beside())?,
+            Cell::of(self.alloc, name, width)?,
+            Cell::of(self.alloc, called.standby, STANDBY)?,
+            Cell::of(self.alloc, called.go, GO)?,
+            Cell::of(self.alloc, called.time, TIME)?,
         ];
         push_row(self.alloc, &mut self.lines, &cells)
     }
 
-    fn push_device(&mut self, entry: &DeviceEntry) -> Result<(), AllocError> {
+    fn push_device(&mut self, entry: &DeviceEntry) -> Result<(), AllocError>
+        ensures { OnOk result (Keeps self.old.lines.items self.new.lines.items) }
+    {
         let place = place_text(self.alloc, entry)?;
         let name = entry.name.as_deref().unwrap_or("");
         let width = COLUMNS.saturating_sub(NUMBER + GAP + GAP + PLACE);
@@ -100,13 +162,22 @@ impl Sheet<'_> {
         push_row(self.alloc, &mut self.lines, &cells)
     }
 
-    fn push_devices(&mut self) -> Result<(), AllocError> {
-        self.push_line("")?;
-        self.push_line("DEVICES")?;
-        let file = self.file;
-        if file.devices.is_empty() {
-            return self.push_line("none");
+    // A heading, and that there is nothing under it, if that is so.
+    fn push_heading(&mut self, words: &str, is_empty: bool) -> Result<(), AllocError>
+        ensures { OnOk result (Keeps self.old.lines.items self.new.lines.items) }
+    {
+        push_heading(self.alloc, &mut self.lines, words)?;
+        if is_empty {
+            self.row(&[("none", COLUMNS)])?;
         }
+        Ok(())
+    }
+
+    fn push_devices(&mut self) -> Result<(), AllocError>
+        ensures { OnOk result (Keeps self.old.lines.items self.new.lines.items) }
+    {
+        let file = self.file;
+        self.push_heading("Devices", file.devices.is_empty())?;
         for entry in &file.devices {
             self.push_device(entry)?;
         }
@@ -120,7 +191,9 @@ impl Sheet<'_> {
         (width / 2).saturating_mul(2)
     }
 
-    fn push_part(&mut self, part: &Part, form: Form) -> Result<(), AllocError> {
+    fn push_part(&mut self, part: &Part, form: Form) -> Result<(), AllocError>
+        ensures { OnOk result (Keeps self.old.lines.items self.new.lines.items) }
+    {
         let file = self.file;
         let name = file.device_name(part.device).unwrap_or("");
         let sent = sent_text(self.alloc, form, part.bytes.as_slice())?;
@@ -136,28 +209,24 @@ impl Sheet<'_> {
     }
 
     // What people see of a cue.
-    fn push_signs(&mut self, entry: &CueEntry) -> Result<(), AllocError> {
+    fn push_signs(&mut self, entry: &CueEntry) -> Result<(), AllocError>
+        ensures { OnOk result (Keeps self.old.lines.items self.new.lines.items) }
+    {
         let name = entry.name.as_deref().unwrap_or("");
-        self.push_beside(cue_text(&entry.number), name)?;
+        self.push_called(cue_text(&entry.number), name, ROOM)?;
         let marks = marks_text(self.alloc, entry)?;
-        if !marks.is_empty() {
-            self.push_beside("", marks.as_str())?;
-        }
+        self.push_beside(marks.as_str())?;
         let together = together_text(self.alloc, entry)?;
-        if !together.is_empty() {
-            self.push_beside("", together.as_str())?;
-        }
-        match &entry.note {
-            Some(note) => {
-                let note = format!(in self.alloc; "Note: {}", note.as_str())?;
-                self.push_beside("", note.as_str())
-            }
-            None => Ok(()),
-        }
+        self.push_beside(together.as_str())?;
+        let note = note_text(self.alloc, entry)?;
+        self.push_beside(note.as_str())?;
+        Ok(())
     }
 
-    fn push_cue(&mut self, entry: &CueEntry) -> Result<(), AllocError> {
-        self.push_line("")?;
+    fn push_cue(&mut self, entry: &CueEntry) -> Result<(), AllocError>
+        ensures { OnOk result (Keeps self.old.lines.items self.new.lines.items) }
+    {
+        self.row(&[("", COLUMNS)])?;
         self.push_signs(entry)?;
         for (index, part) in entry.parts.as_slice().iter().enumerate() {
             self.push_part(part, entry.form(index))?;
@@ -165,36 +234,48 @@ impl Sheet<'_> {
         Ok(())
     }
 
-    fn push_cues(&mut self) -> Result<(), AllocError> {
-        self.push_line("")?;
-        self.push_line("CUES")?;
+    fn push_cues(&mut self) -> Result<(), AllocError>
+        ensures { OnOk result (Keeps self.old.lines.items self.new.lines.items) }
+    {
         let file = self.file;
-        if file.cues.is_empty() {
-            return self.push_line("none");
+        self.push_heading("Cues", file.cues.is_empty())?;
+        if !file.cues.is_empty() {
+            self.push_called("cue", "name and note", OVER)?;
         }
         for entry in &file.cues {
             self.push_cue(entry)?;
         }
         Ok(())
     }
-}
 
-// The lines as a terminal may get them.
-#[tactic(auto, using(cue_board::proofs::ColumnLemmas::are_fit_push))]
-fn fit_lines(alloc: Global, lines: &[String]) -> Result<Vec<String>, AllocError>
-    ensures { IfOk result (λ texts. AreFit texts.items) }
-{
-    let mut texts = Vec::new(alloc);
-    for line in lines {
-        texts.push(fitted(alloc, line.as_str(), COLUMNS)?)?;
+    fn push_head(&mut self, title: &str, printed: &str) -> Result<(), AllocError>
+        ensures { OnOk result (Keeps self.old.lines.items self.new.lines.items) }
+    {
+        self.row(&[("CUE SHEET", 9), (title, COLUMNS - 11)])?;
+        self.row(&[(printed, COLUMNS)])?;
+        self.row(&[(HEAD, COLUMNS)])?;
+        Ok(())
     }
-    Ok(texts)
+
+    fn push_all(&mut self, title: &str, printed: &str) -> Result<(), AllocError>
+        ensures { OnOk result (Keeps self.old.lines.items self.new.lines.items) }
+    {
+        self.push_head(title, printed)?;
+        self.push_devices()?;
+        self.push_cues()
+    }
 }
 
-/// The lines of the cue sheet of a file, with this title: the devices with their places, and each cue in its order with
-/// its number, name, colour, flag, note and parts. No line has more than 80 columns: names and bytes go on in the next
-/// line of their column.
-pub fn sheet_lines(alloc: Global, title: &str, file: &ShowFile) -> Result<Vec<String>, AllocError>
+/// The lines of the cue sheet of a file, with this title, and when it was printed: the devices with their places, and
+/// each cue in its order with its number, name, colour, flag, note and parts, and room for what is written in by hand.
+/// No line has more than 80 columns: names and bytes go on in the next line of their column.
+#[tactic(auto, using(cue_columns::proofs::ColumnLemmas::fit_behind_none, cue_columns::proofs::ColumnLemmas::keeps_then))]
+pub fn sheet_lines(
+    alloc: Global,
+    title: &str,
+    printed: &str,
+    file: &ShowFile,
+) -> Result<Vec<String>, AllocError>
     ensures { IfOk result (λ lines. AreFit lines.items) }
 {
     let mut sheet = Sheet {
@@ -203,20 +284,20 @@ pub fn sheet_lines(alloc: Global, title: &str, file: &ShowFile) -> Result<Vec<St
         number: number_width(file),
         lines: Vec::new(alloc),
     };
-    let title = [
-        Cell::of(alloc, "CUE SHEET", 9)?,
-        Cell::of(alloc, title, COLUMNS - 11)?,
-    ];
-    push_row(alloc, &mut sheet.lines, &title)?;
-    sheet.push_devices()?;
-    sheet.push_cues()?;
-    fit_lines(alloc, &sheet.lines)
+    sheet.push_all(title, printed)?;
+    let Sheet { lines, .. } = sheet;
+    Ok(lines)
 }
 
 /// The same lines as one text.
-pub fn sheet_text(alloc: Global, title: &str, file: &ShowFile) -> Result<String, AllocError> {
+pub fn sheet_text(
+    alloc: Global,
+    title: &str,
+    printed: &str,
+    file: &ShowFile,
+) -> Result<String, AllocError> {
     let mut text = String::new(alloc);
-    for line in sheet_lines(alloc, title, file)? {
+    for line in sheet_lines(alloc, title, printed, file)? {
         text.push_str(line.as_str())?;
         text.push('\n')?;
     }

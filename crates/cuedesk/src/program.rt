@@ -29,6 +29,7 @@ use cue_desk_line::{Environment, Line, line};
 use cue_files_run::{check_file, export};
 use cue_loading_run::{Loaded, load};
 use cue_operator::CueVerb;
+use cue_report::marks::Curtain;
 use cue_saying::{print, say};
 use cue_show_file::ShowFile;
 use new::write_new;
@@ -36,7 +37,7 @@ use next::press_word;
 use orders::carry_order;
 use rehearsing::rehearse;
 use relaying::relay_devices;
-use reporting::report_evening;
+use reporting::{mark_curtain, report_evening};
 use sheet::print_sheet;
 use std::fs::{File, Files};
 use std::io::{Eprint, Write};
@@ -107,7 +108,9 @@ fn carry_out<R: Files<File = File> + Net + Clock + RandomSource + Eprint + Alloc
         }
         Line::Export { dir } => export(rt, dir.as_str(), writer),
         Line::New { file } => write_new(rt, file.as_str(), writer),
-        Line::Sheet { file, html } => print_sheet(rt, file.as_str(), *html, writer),
+        Line::Sheet { file, html, title } => {
+            print_sheet(rt, file.as_str(), title.as_str(), *html, writer)
+        }
         Line::Board {
             watched,
             once,
@@ -124,6 +127,10 @@ fn carry_out<R: Files<File = File> + Net + Clock + RandomSource + Eprint + Alloc
             relay_devices(rt, file.as_str(), *port, status.as_deref(), writer)
         }
         Line::Report(report) => report_evening(rt, report, writer),
+        Line::Mark { file, is_up } => {
+            let curtain = if *is_up { Curtain::Up } else { Curtain::Down };
+            mark_curtain(rt, file.as_str(), curtain, writer)
+        }
         Line::Ask { order, port, name } => {
             carry_order(rt, *order, &[], controller_port(*port, None), *name, writer)
         }

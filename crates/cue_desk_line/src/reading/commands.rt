@@ -6,7 +6,7 @@ use super::arguments::{
 use super::buttons::BUTTONS_COMMAND;
 use super::pressing::{GO_COMMAND, STANDBY_COMMAND};
 use super::rehearsing::REHEARSE_COMMAND;
-use super::reporting::REPORT_COMMAND;
+use super::reporting::{MARK_COMMAND, REPORT_COMMAND};
 use super::sheet::{NEW_COMMAND, SHEET_COMMAND};
 use super::web::WEB_COMMAND;
 use clap::Command;
@@ -19,7 +19,7 @@ const CUE: Argument = Argument::Word("CUE", "The number of the cue, as 12.5");
 const DEVICE: Argument = Argument::Word("DEVICE", "The number of the device, 0 to 111");
 
 /// The commands that read or write a show file, and end.
-const FILES: [Declared; 6] = [
+const FILES: [Declared; 7] = [
     NEW_COMMAND,
     Declared {
         name: "check",
@@ -50,6 +50,7 @@ const FILES: [Declared; 6] = [
         arguments: &[DIR],
     },
     REPORT_COMMAND,
+    MARK_COMMAND,
 ];
 
 /// The commands that go on until Ctrl-C.

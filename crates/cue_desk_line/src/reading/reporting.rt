@@ -1,7 +1,7 @@
 //! The command `report`, and who asks: what stands after it.
 use super::arguments::{Argument, Declared};
 use super::words::Line;
-use super::{or_unfit, text_in};
+use super::{option_in, or_unfit, text_in};
 use clap::ArgMatches;
 use cue_asker::AskerName;
 use cue_desk::line::LineFault;
@@ -23,6 +23,8 @@ pub struct Report {
     pub to: Option<u16>,
     /// How many minutes the clock on the wall is ahead of UTC.
     pub ahead: i16,
+    /// The file with the marks of the curtain, if there is one.
+    pub marks: Option<String>,
 }
 
 /// As what an evening is told.
@@ -49,6 +51,11 @@ pub(super) const REPORT_COMMAND: Declared = Declared {
             "As a table for a spreadsheet, a row for each attempt",
         ),
         Argument::OptionOf("title", "TITLE", "What the show is called"),
+        Argument::OptionOf(
+            "marks",
+            "FILE",
+            "The marks of the curtain, as `mark` writes them",
+        ),
         Argument::OptionOf("from", "HH:MM", "From this time of the day on"),
         Argument::OptionOf("to", "HH:MM", "Up to this time of the day"),
         Argument::OptionOf(
@@ -135,7 +142,37 @@ pub fn report_in(alloc: Global, found: &ArgMatches<'_>) -> Result<Line, LineFaul
         from: minute_in(alloc, found, "from")?,
         to: minute_in(alloc, found, "to")?,
         ahead: ahead_in(alloc, found)?,
+        marks: option_in(alloc, found, "marks")?,
     }))
+}
+
+/// The command `mark`.
+pub(super) const MARK_COMMAND: Declared = Declared {
+    name: "mark",
+    about: "Mark that the curtain goes up or down, for the report:  cuedesk mark evening.marks up",
+    arguments: &[
+        Argument::Word("FILE", "The file with the marks, beside the log"),
+        Argument::Word("CURTAIN", "up or down"),
+    ],
+};
+
+/// The command `mark`, with what stands after it.
+pub(super) fn mark_in(alloc: Global, found: &ArgMatches<'_>) -> Result<Line, LineFault> {
+    let said = found.get_str("CURTAIN").unwrap_or("");
+    let is_up = match said {
+        "up" => Some(true),
+        "down" => Some(false),
+        _ => None,
+    };
+    Ok(Line::Mark {
+        file: text_in(alloc, found, "FILE")?,
+        is_up: or_unfit(
+            alloc,
+            is_up,
+            said,
+            "is not what a curtain does: say up or down",
+        )?,
+    })
 }
 
 /// Who asks, if the command line says it.

@@ -16,6 +16,7 @@ pub(super) const SHEET_COMMAND: Declared = Declared {
             "html",
             "Print it as a page for a browser:  cuedesk sheet evening.toml --html > sheet.html",
         ),
+        Argument::OptionOf("title", "TITLE", "What the show is called"),
     ],
 };
 
@@ -31,6 +32,7 @@ pub(super) fn sheet_in(alloc: Global, found: &ArgMatches<'_>) -> Result<Line, Li
     Ok(Line::Sheet {
         file: text_in(alloc, found, "FILE")?,
         html: found.get_flag("html"),
+        title: String::from_str(alloc, found.get_str("title").unwrap_or(""))?,
     })
 }
 

@@ -66,6 +66,8 @@ pub enum Line {
         file: String,
         /// As a page for a browser.
         html: bool,
+        /// What the show is called; empty if that is not said.
+        title: String,
     },
     /// Show the board.
     Board {
@@ -90,6 +92,11 @@ pub enum Line {
     },
     /// Tell an evening by its log.
     Report(Report),
+    /// Mark in this file that the curtain goes up, or down.
+    Mark {
+        file: String,
+        is_up: bool,
+    },
     /// Stand a cue by, and with it the others.
     StandBy {
         cue: CueNo,
@@ -124,6 +131,7 @@ impl Line {
             | Line::New { .. }
             | Line::Sheet { .. }
             | Line::Rehearse(_)
+            | Line::Mark { .. }
             | Line::Report(_) => None,
         }
     }
@@ -137,7 +145,7 @@ impl Line {
             Line::Press(pressed) => Some(&mut pressed.name),
             Line::Check { .. } | Line::Export { .. } | Line::Load { .. } => None,
             Line::New { .. } | Line::Sheet { .. } | Line::Report(_) => None,
-            Line::Board { .. } | Line::Rehearse(_) | Line::Relay { .. } => None,
+            Line::Board { .. } | Line::Rehearse(_) | Line::Relay { .. } | Line::Mark { .. } => None,
         }
     }
 }

@@ -1,4 +1,8 @@
 //! Who asks, and for what.
+ghost use Rattle.std.specs.Prelude.{◌≡◌, ◌++◌, IfSome, OnOk, None, Some, codes, nat_eq, slice_get};
+ghost use Rattle.std.specs.HashMap.{get, IsEmpty};
+ghost use Rattle.cue_report.specs.Asking as spec;
+
 use crate::attempt::Who;
 use cue_asker::AskerName;
 use cue_log_lines::{Asked, Line, Ordered};
@@ -33,8 +37,7 @@ pub fn verb_at(address: &[u8]) -> Option<(CueVerb, Option<CueNo>)> {
 
 // The device with the number that a text is.
 fn device_in(text: &[u8]) -> Option<DeviceNo> {
-    let number = str::from_utf8(text).ok()?.parse::<i32>().ok()?;
-    DeviceNo::of(number)
+    DeviceNo::of(str::from_utf8(text).ok()?.parse::<i32>().ok()?)
 }
 
 // What a device says at an address, or what is asked of it.
@@ -59,12 +62,13 @@ pub fn name_at(address: &[u8]) -> Option<AskerName> {
     AskerName::read(address.strip_prefix(b"/as/".as_slice())?)
 }
 
-/// A command that was made: when, by whom, and at which cue; none for more than one.
+/// A command that was made: when, by whom, what, and at which cue; none for more than one.
 #[derive(Clone, Copy)]
-struct Made {
-    at: u64,
-    by: Who,
-    cue: Option<CueNo>,
+pub struct Made {
+    pub at: u64,
+    pub by: Who,
+    pub verb: CueVerb,
+    pub cue: Option<CueNo>,
 }
 
 /// The commands of the last moment that were made, each with who asked.
@@ -74,12 +78,47 @@ pub struct Asking {
     devices: HashMap<u16, DeviceNo>,
     ports: [u16; MAX_DEVICES],
     // The last ones of the newest second.
-    made: VecDeque<(CueVerb, Made)>,
+    made: VecDeque<Made>,
+}
+
+// The name that a port has at a second: it was sent ten seconds before at most.
+fn name_within(named: Option<(u64, AskerName)>, at: u64) -> Option<AskerName>
+    ensures { result ≡ spec.name_within named at }
+{
+    match named {
+        Some((since, name)) if at.saturating_sub(since) <= NAMED => Some(name),
+        _ => None,
+    }
+}
+
+// Who asks: the device that the address names, if it is its port; else the name that the port has, the device that
+// listens there, or nothing but the port.
+fn asker_at(
+    device: Option<DeviceNo>,
+    name: Option<AskerName>,
+    listens: Option<DeviceNo>,
+    port: u16,
+) -> Who
+    ensures { result ≡ spec.asker_at device name listens port }
+{
+    match (device, name, listens) {
+        (Some(device), _, _) => Who::Device(device),
+        (None, Some(name), _) => Who::Named(name),
+        (None, None, Some(device)) => Who::Device(device),
+        (None, None, None) => Who::Port(port),
+    }
+}
+
+// Whether a command is the one that is meant: it was made in this second, of this cue or of several.
+fn is_meant(made: &Made, verb: CueVerb, cue: &Option<CueNo>, at: u64) -> bool {
+    made.verb == verb && made.at == at && (made.cue.is_none() || made.cue == *cue)
 }
 
 impl Asking {
     /// Nobody asked.
-    pub fn new(alloc: Global) -> Asking {
+    pub fn new(alloc: Global) -> Asking
+        ensures { IsEmpty result.names }
+    {
         Asking {
             names: HashMap::new(alloc),
             devices: HashMap::new(alloc),
@@ -89,13 +128,17 @@ impl Asking {
     }
 
     /// A port has this name from this second on.
-    pub fn name(&mut self, port: u16, at: u64, name: AskerName) -> Result<(), AllocError> {
+    pub fn name(&mut self, port: u16, at: u64, name: AskerName) -> Result<(), AllocError>
+        ensures { OnOk result (get nat_eq self.new.names port ≡ Some (at, name)) }
+    {
         let _ = self.names.insert(port, (at, name))?;
         Ok(())
     }
 
     /// A device listens at the port of an order.
-    pub fn order(&mut self, ordered: &Ordered) -> Result<(), AllocError> {
+    pub fn order(&mut self, ordered: &Ordered) -> Result<(), AllocError>
+        ensures { OnOk result (get nat_eq self.new.devices ordered.now.port ≡ Some ordered.now.device) }
+    {
         if let Some(port) = self.ports.get_mut(usize::from(ordered.device.number())) {
             *port = ordered.port;
         }
@@ -103,38 +146,33 @@ impl Asking {
         Ok(())
     }
 
-    // Whether the device has this port.
-    fn has_port(&self, device: DeviceNo, port: u16) -> bool {
-        self.ports.get(usize::from(device.number())) == Some(&port)
-    }
-
-    // The name of a port at a second.
-    fn name_of(&self, port: u16, at: u64) -> Option<AskerName> {
-        match self.names.get(&port) {
-            Some((since, name)) if at.saturating_sub(*since) <= NAMED => Some(*name),
+    // The device, if it has this port.
+    fn with_port(&self, word: Option<(DeviceVerb, DeviceNo)>, port: u16) -> Option<DeviceNo> {
+        let (_, device) = word?;
+        match self.ports.get(usize::from(device.number())) {
+            Some(there) if *there == port => Some(device),
             _ => None,
         }
     }
 
-    /// Who asked at a second.
-    pub fn who(&self, reply: &Asked<'_>, at: u64) -> Who {
-        match word_at(reply.address.bytes()) {
-            Some((_, device)) if self.has_port(device, reply.port) => return Who::Device(device),
-            _ => {}
-        }
-        if let Some(name) = self.name_of(reply.port, at) {
-            return Who::Named(name);
-        }
-        match self.devices.get(&reply.port) {
-            Some(device) => Who::Device(*device),
-            None => Who::Port(reply.port),
-        }
+    // The name of a port at a second.
+    fn name_of(&self, port: u16, at: u64) -> Option<AskerName>
+        ensures { result ≡ spec.name_within (get nat_eq self.now.names port) at }
+    {
+        name_within(self.names.get(&port).copied(), at)
     }
 
-    // Keeps a command of this second.
-    fn keep(&mut self, verb: CueVerb, made: Made) -> Result<(), AllocError> {
+    /// Who asked at a second.
+    pub fn who(&self, reply: &Asked<'_>, at: u64) -> Who {
+        let device = self.with_port(word_at(reply.address.bytes()), reply.port);
+        let listens = self.devices.get(&reply.port).copied();
+        asker_at(device, self.name_of(reply.port, at), listens, reply.port)
+    }
+
+    /// A command was made: those of the seconds before are of no use any more.
+    pub fn made(&mut self, made: &Made) -> Result<(), AllocError> {
         let is_old = match self.made.back() {
-            Some((_, last)) => last.at != made.at,
+            Some(last) => last.at != made.at,
             None => false,
         };
         if is_old {
@@ -143,29 +181,19 @@ impl Asking {
         if self.made.len() >= MOST {
             let _ = self.made.pop_front();
         }
-        self.made.push_back((verb, made))?;
+        self.made.push_back(*made)?;
         Ok(())
-    }
-
-    /// A command of a cue, or of more cues, was made.
-    pub fn made(
-        &mut self,
-        verb: CueVerb,
-        cue: Option<CueNo>,
-        at: u64,
-        by: &Who,
-    ) -> Result<(), AllocError> {
-        let made = Made { at, by: *by, cue };
-        self.keep(verb, made)
     }
 
     /// Who asked for this of a cue at this second: the last one, in this very second, else nobody who is seen.
     pub fn asker(&self, verb: CueVerb, cue: &Option<CueNo>, at: u64) -> Who {
-        let found = self.made.iter().rev().find(|(other, made)| {
-            *other == verb && made.at == at && (made.cue.is_none() || made.cue == *cue)
-        });
+        let found = self
+            .made
+            .iter()
+            .rev()
+            .find(|made| is_meant(made, verb, cue, at));
         match found {
-            Some((_, made)) => made.by,
+            Some(made) => made.by,
             None => Who::Unseen,
         }
     }

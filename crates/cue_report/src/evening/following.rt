@@ -1,6 +1,9 @@
 //! Follows what the lines say.
+ghost use Rattle.std.specs.Prelude.{◌≡◌};
+ghost use Rattle.cue_report.specs.Picture.{picture};
+
 use super::asking::answer_in;
-use super::{Deed, Done, Evening};
+use super::{Done, Evening};
 use crate::attempt::Who;
 use crate::reading::Said;
 use crate::sentences::shown_bytes;
@@ -8,16 +11,6 @@ use cue_log_lines::listed::found_in;
 use cue_log_lines::{Line, OrderKind, write};
 use cue_operator::CueVerb;
 use std::alloc::AllocError;
-
-// Whether `serve` runs when it says this; what it says of itself may also be said beside it.
-fn is_of_run(said: &Said<'_>) -> bool {
-    match said {
-        Said::Line(Line::Stopped | Line::Own(_)) | Said::Ended(_) => false,
-        Said::Line(Line::Ready { .. } | Line::Recovered(_) | Line::HeldUp(_)) => true,
-        Said::Line(Line::Replied(_, _) | Line::Kinds(_) | Line::Ordered(_)) => true,
-        Said::Line(Line::Alone(_, _) | Line::GivenUp(_, _) | Line::Ended(_)) => true,
-    }
-}
 
 impl Evening {
     /// Takes what a line says. `before` is the second of the line before it.
@@ -27,17 +20,19 @@ impl Evening {
         before: Option<u64>,
         said: &Said<'_>,
     ) -> Result<(), AllocError> {
-        let was_running = self.is_running;
-        self.is_running = was_running || is_of_run(said);
+        let silent = if self.is_running { before } else { None };
+        // What it says of itself may also be said beside it.
+        let is_beside = matches!(
+            said,
+            Said::Line(Line::Stopped | Line::Own(_)) | Said::Ended(_)
+        );
+        self.is_running = self.is_running || !is_beside;
         match said {
-            Said::Line(Line::Ready { dir, port }) => {
-                let silent = if was_running { before } else { None };
-                self.begin(at, silent, dir.bytes(), *port)
-            }
+            Said::Line(Line::Ready { dir, port }) => self.begin(at, silent, dir.bytes(), *port),
             Said::Line(line) => self.take_line(at, line),
             Said::Ended(said) => {
-                let said = shown_bytes(self.alloc, said)?;
-                self.stop(at, Deed::Ended(said))
+                self.is_running = false;
+                self.say(at, "the controller ended by itself: ", said)
             }
         }
     }
@@ -56,18 +51,20 @@ impl Evening {
         self.asking.asker(verb, &cue, at)
     }
 
-    // Takes what a line of the log says that is no start.
+    // Takes a line of the log: what it says of attempts, and all else.
     fn take_line(&mut self, at: u64, line: &Line<'_>) -> Result<(), AllocError> {
         let by = self.asker_of(at, line);
         self.attempts.take(at, &by, answer_in(line), line)?;
+        self.follow(at, line)
+    }
+
+    // Takes what a line says beside that: the attempts that a start has, and what is no attempt.
+    fn follow(&mut self, at: u64, line: &Line<'_>) -> Result<(), AllocError> {
         match line {
-            Line::Stopped => self.stop(at, Deed::Stopped),
-            Line::Own(said) => self.tell(at, said.bytes()),
+            Line::Stopped => self.stop(at),
+            Line::Own(said) => self.say(at, "", said.bytes()),
             Line::Recovered(list) => self.recover(at, list.bytes()),
-            Line::HeldUp(_) => {
-                let said = write(self.alloc, line)?;
-                self.tell(at, &said)
-            }
+            Line::HeldUp(_) => self.say_line(at, line),
             Line::Replied(reply, count) => self.reply(at, reply, *count),
             Line::Kinds(count) => self.count(at, *count),
             Line::Ordered(ordered) => self.asking.order(ordered),
@@ -75,38 +72,61 @@ impl Evening {
         }
     }
 
-    // `serve` has begun. `silent` is the second of the line before, if it had ended without a word.
+    // The controller was stopped.
+    fn stop(&mut self, at: u64) -> Result<(), AllocError>
+        ensures { picture self.new.attempts ≡ picture self.old.attempts }
+    {
+        self.is_running = false;
+        self.say(at, "the controller was stopped", b"")
+    }
+
+    // It says this line.
+    fn say_line(&mut self, at: u64, line: &Line<'_>) -> Result<(), AllocError>
+        ensures { picture self.new.attempts ≡ picture self.old.attempts }
+    {
+        let said = write(self.alloc, line)?;
+        self.say(at, "", &said)
+    }
+
+    // The controller does this, or says something of itself.
+    fn say(&mut self, at: u64, front: &str, words: &[u8]) -> Result<(), AllocError>
+        ensures { picture self.new.attempts ≡ picture self.old.attempts }
+    {
+        let words = shown_bytes(self.alloc, words)?;
+        let said = format!(in self.alloc; "{front}{}", words.as_str())?;
+        self.deeds.push(Done { at, said })
+    }
+
+    // The controller has begun. `silent` is the second of the line before, if it had ended without a word.
     fn begin(
         &mut self,
         at: u64,
         silent: Option<u64>,
         dir: &[u8],
         port: u16,
-    ) -> Result<(), AllocError> {
+    ) -> Result<(), AllocError>
+        ensures { picture self.new.attempts ≡ picture self.old.attempts }
+    {
         let dir = shown_bytes(self.alloc, dir)?;
-        let deed = Deed::Began { dir, port, silent };
-        self.deeds.push(Done { at, deed })
+        let mut said = format!(in self.alloc;
+            "the controller began, {} at port {port}",
+            dir.as_str()
+        )?;
+        if let Some(silent) = silent {
+            let times = self.times();
+            said.push_str("; it had stopped between ")?;
+            said.push_str(times.moment(self.alloc, silent)?.as_str())?;
+            said.push_str(" and ")?;
+            said.push_str(times.moment(self.alloc, at)?.as_str())?;
+        }
+        self.deeds.push(Done { at, said })
     }
 
-    // `serve` has ended.
-    fn stop(&mut self, at: u64, deed: Deed) -> Result<(), AllocError> {
-        self.is_running = false;
-        self.deeds.push(Done { at, deed })
-    }
-
-    // `serve` says something.
-    fn tell(&mut self, at: u64, said: &[u8]) -> Result<(), AllocError> {
-        let deed = Deed::Said(shown_bytes(self.alloc, said)?);
-        self.deeds.push(Done { at, deed })
-    }
-
-    // `serve` says what was live when it began.
+    // It says what was live when it began.
     fn recover(&mut self, at: u64, list: &[u8]) -> Result<(), AllocError> {
         for said in list.split(|byte| *byte == b';') {
             self.attempts.take_found(at, found_in(said.trim_ascii()))?;
         }
-        let text = shown_bytes(self.alloc, list)?;
-        let deed = Deed::Said(format!(in self.alloc; "recovered: {}", text.as_str())?);
-        self.deeds.push(Done { at, deed })
+        self.say(at, "recovered: ", list)
     }
 }

@@ -1,5 +1,9 @@
 //! Hears the bytes of a log, line by line.
+ghost use Rattle.std.specs.Prelude.{◌≡◌};
+ghost use Rattle.cue_report.specs.Picture.{picture};
+
 use super::Evening;
+use crate::cutting::Cutter;
 use crate::reading::{Dated, read, start_within};
 use std::alloc::AllocError;
 
@@ -33,10 +37,7 @@ impl Evening {
 
     // Hears the line that is there, and begins the next one.
     fn end_line(&mut self) -> Result<(), AllocError> {
-        let mut cutter = std::mem::replace(
-            &mut self.cutter,
-            crate::cutting::Cutter::new(self.alloc),
-        );
+        let mut cutter = std::mem::replace(&mut self.cutter, Cutter::new(self.alloc));
         let heard = match cutter.line() {
             Some(line) => self.hear_line(without_return(line)),
             None => self.pass_over(),
@@ -47,20 +48,20 @@ impl Evening {
     }
 
     // Counts a line that is none of the log.
-    fn pass_over(&mut self) -> Result<(), AllocError> {
+    fn pass_over(&mut self) -> Result<(), AllocError>
+        ensures { picture self.new.attempts ≡ picture self.old.attempts }
+    {
         self.counts.others = self.counts.others.saturating_add(1);
         Ok(())
     }
 
     // Whether a line was heard a moment ago and goes back in time, or follows one that does.
     fn is_repeated(&self, line: &[u8], at: u64) -> bool {
-        match self.last {
-            Some(last) => {
-                let goes_back = at < last || (at == last && self.is_repeating);
-                goes_back && self.repeats.knows(line)
-            }
-            None => false,
-        }
+        let Some(last) = self.last else {
+            return false;
+        };
+        let goes_back = at < last || (at == last && self.is_repeating);
+        goes_back && self.repeats.knows(line)
     }
 
     // Hears a line. If a start begins within it, the line before that was cut off, as on a full disk.
@@ -81,34 +82,34 @@ impl Evening {
         }
     }
 
-    // Counts a line of another time of the day.
-    fn leave_out(&mut self) -> Result<(), AllocError> {
-        self.counts.outside = self.counts.outside.saturating_add(1);
-        Ok(())
+    // Whether a line with a date is told: it is of the part of the day that is, and did not stand there before.
+    fn is_new(&mut self, line: &[u8], at: u64) -> bool
+        ensures { picture self.new.attempts ≡ picture self.old.attempts }
+    {
+        if !self.is_told(at) {
+            self.counts.outside = self.counts.outside.saturating_add(1);
+            return false;
+        }
+        self.is_repeating = self.is_repeated(line, at);
+        if self.is_repeating {
+            self.counts.repeated = self.counts.repeated.saturating_add(1);
+        }
+        !self.is_repeating
     }
 
+    // Hears what a line says, if it is told.
     fn hear_said(&mut self, line: &[u8], said: &Dated<'_>) -> Result<(), AllocError> {
-        let at = match said.at {
-            Some(at) if !self.is_told(at) => return self.leave_out(),
-            Some(at) if self.is_repeated(line, at) => {
-                self.is_repeating = true;
-                self.counts.repeated = self.counts.repeated.saturating_add(1);
+        let before = self.last;
+        let at = said.at.unwrap_or(before.unwrap_or(0));
+        if said.at.is_some() {
+            if !self.is_new(line, at) {
                 return Ok(());
             }
-            Some(at) => {
-                self.is_repeating = false;
-                self.repeats.keep(line)?;
-                at
-            }
-            None => self.last.unwrap_or(0),
-        };
-        self.counts.told = self.counts.told.saturating_add(1);
-        let before = self.last;
-        self.take(at, before, &said.said)?;
-        if said.at.is_some() {
+            self.repeats.keep(line)?;
             self.first = Some(self.first.unwrap_or(at));
             self.last = Some(at);
         }
-        Ok(())
+        self.counts.told = self.counts.told.saturating_add(1);
+        self.take(at, before, &said.said)
     }
 }

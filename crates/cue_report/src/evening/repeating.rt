@@ -1,4 +1,6 @@
 //! Lines that stand in a log twice: after a power cut a journal may give some lines again.
+ghost use Rattle.std.specs.Prelude.{◌≡◌, []};
+
 use std::alloc::{AllocError, Global};
 use std::collections::VecDeque;
 
@@ -21,7 +23,9 @@ fn number_of(line: &[u8]) -> u64 {
 
 impl Repeats {
     /// No line was seen.
-    pub fn new(alloc: Global) -> Repeats {
+    pub fn new(alloc: Global) -> Repeats
+        ensures { result.last.items ≡ [] }
+    {
         Repeats {
             last: VecDeque::new(alloc),
         }

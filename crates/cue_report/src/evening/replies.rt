@@ -1,11 +1,12 @@
 //! Follows the replies: what was asked of cues and devices, by whom, and what was refused.
 ghost use Rattle.std.specs.Prelude.{◌≡◌};
 ghost use Rattle.cue_report.specs.Following as spec;
+ghost use Rattle.cue_report.specs.Picture.{picture};
 
-use super::asking::{name_at, verb_at};
+use super::asking::{Made, name_at, verb_at};
 use super::{Evening, Refusal};
 use crate::attempt::Who;
-use crate::sentences::{counted_words, refused_words, shown_bytes};
+use crate::sentences::{counted_words, refused_words};
 use cue_log_lines::{Asked, Count, Refused};
 use std::alloc::AllocError;
 
@@ -26,7 +27,9 @@ impl Evening {
         at: u64,
         reply: &Asked<'_>,
         count: Option<Count>,
-    ) -> Result<(), AllocError> {
+    ) -> Result<(), AllocError>
+        ensures { picture self.new.attempts ≡ picture self.old.attempts }
+    {
         if let Some(name) = name_at(reply.address.bytes()) {
             return self.asking.name(reply.port, at, name);
         }
@@ -34,19 +37,18 @@ impl Evening {
         if let Refused::Some { code, .. } = reply.refused {
             self.refuse_reply(at, &by, reply, code, count)?;
         }
-        if reply.made == 0 {
-            return Ok(());
+        match verb_at(reply.address.bytes()) {
+            Some((verb, cue)) if reply.made > 0 => self.asking.made(&Made { at, by, verb, cue }),
+            _ => Ok(()),
         }
-        if let Some((verb, cue)) = verb_at(reply.address.bytes()) {
-            return self.asking.made(verb, cue, at, &by);
-        }
-        Ok(())
     }
 
-    // Counts a refusal that stands for so many; answers whether there is room to keep it.
-    fn refuse(&mut self, times: u64) -> bool {
+    // Keeps a refusal that stands for so many.
+    fn refuse(&mut self, times: u64, at: u64, by: &Who, said: String) -> Result<(), AllocError>
+        ensures { picture self.new.attempts ≡ picture self.old.attempts }
+    {
         self.refused = self.refused.saturating_add(times);
-        self.refusals.has_room()
+        self.refusals.push(Refusal { at, by: *by, said })
     }
 
     // A command was refused.
@@ -57,32 +59,18 @@ impl Evening {
         reply: &Asked<'_>,
         code: u16,
         count: Option<Count>,
-    ) -> Result<(), AllocError> {
-        if !self.refuse(times_of(count)) {
-            return Ok(());
-        }
-        let refusal = Refusal {
-            at,
-            by: *by,
-            address: shown_bytes(self.alloc, reply.address.bytes())?,
-            code,
-            why: refused_words(self.alloc, reply, code, count)?,
-        };
-        self.refusals.push(refusal)
+    ) -> Result<(), AllocError>
+        ensures { picture self.new.attempts ≡ picture self.old.attempts }
+    {
+        let said = refused_words(self.alloc, reply, code, count)?;
+        self.refuse(times_of(count), at, by, said)
     }
 
     // Refusals of several kinds were counted.
-    pub(super) fn count(&mut self, at: u64, count: Count) -> Result<(), AllocError> {
-        if !self.refuse(count.times) {
-            return Ok(());
-        }
-        let refusal = Refusal {
-            at,
-            by: Who::Unseen,
-            address: String::new(self.alloc),
-            code: 0,
-            why: counted_words(self.alloc, count)?,
-        };
-        self.refusals.push(refusal)
+    pub(super) fn count(&mut self, at: u64, count: Count) -> Result<(), AllocError>
+        ensures { picture self.new.attempts ≡ picture self.old.attempts }
+    {
+        let said = counted_words(self.alloc, "of several kinds", count)?;
+        self.refuse(count.times, at, &Who::Unseen, said)
     }
 }

@@ -1,105 +1,68 @@
-//! What the report says of an evening as a whole: what `serve` did, what was refused, how long it ran, and how much
-//! there was of each.
-use super::{Told, front_of, who_words};
-use crate::attempt::Who;
-use crate::evening::{Counts, Deed, Done, Kept, Refusal, Totals};
-use crate::names::Names;
-use crate::running::Run;
-use cue_words::shown_text;
-use std::alloc::{AllocError, Global};
+//! What the report says of an evening as a whole: what was refused, how long it ran, and how much there was of each.
+ghost use Rattle.std.specs.Prelude.{◌≡◌, IfOk, string_bytes};
+ghost use Rattle.cue_report.specs.Telling as spec;
+
+use super::{Told, Words};
+use crate::evening::{Counts, Evening, Refusal, Totals};
+use crate::running::Stretch;
+use std::alloc::Global;
 use std::fmt::Write;
 
-// When `serve` began, and since when nothing was known if it had ended without a word.
-fn began_words(
-    alloc: Global,
-    told: Told<'_>,
-    at: u64,
-    dir: &str,
-    port: u16,
-    silent: Option<u64>,
-) -> Result<String, AllocError> {
-    let mut text = format!(in alloc; "serve began, {dir} at port {port}")?;
-    if let Some(silent) = silent {
-        let from = told.times.moment(alloc, silent)?;
-        let to = told.times.moment(alloc, at)?;
-        write!(
-            text,
-            "; it had stopped between {} and {}",
-            from.as_str(),
-            to.as_str()
-        )?;
-    }
-    Ok(text)
+/// What was refused, and to whom: `anna, /cue/12/go: code 13, not every device is ready`.
+pub fn refusal_words(told: Told<'_>, refusal: &Refusal) -> Words {
+    let by = told.who(refusal.by)?;
+    let comma = if by.is_empty() { "" } else { ", " };
+    format!(in told.alloc; "{}{comma}{}", by.as_str(), refusal.said.as_str())
 }
 
-/// What `serve` did.
-pub fn deed_words(alloc: Global, told: Told<'_>, done: &Done) -> Result<String, AllocError> {
-    match &done.deed {
-        Deed::Began { dir, port, silent } => {
-            began_words(alloc, told, done.at, dir.as_str(), *port, *silent)
-        }
-        Deed::Stopped => String::from_str(alloc, "serve was stopped"),
-        Deed::Ended(said) => format!(in alloc; "serve ended by itself: {}", said.as_str()),
-        Deed::Said(said) => said.clone(),
-    }
+/// How many more there were than are kept.
+pub fn more_words(alloc: Global, more: u64) -> Words
+    ensures { IfOk result (λ text. string_bytes text ≡ spec.more_words more) }
+{
+    format!(in alloc; "and {more} more")
 }
 
-/// What was refused: `anna, /cue/12/go: code 13, not every device is ready`.
-pub fn refusal_words(
-    alloc: Global,
-    names: &Names<'_>,
-    refusal: &Refusal,
-) -> Result<String, AllocError> {
-    if refusal.by == Who::Unseen {
-        return refusal.why.clone();
-    }
-    let by = who_words(alloc, names, refusal.by)?;
-    format!(in alloc;
-        "{}, {}: code {}, {}",
-        by.as_str(),
-        refusal.address.as_str(),
-        refusal.code,
-        refusal.why.as_str()
-    )
-}
-
-/// How many more there were than are kept; none if all are.
-pub fn more_words<T>(alloc: Global, kept: &Kept<T>) -> Result<Option<String>, AllocError> {
-    if kept.more == 0 {
-        return Ok(None);
-    }
-    Ok(Some(format!(in alloc; "and {} more", kept.more)?))
-}
-
-/// How long the show ran: `2:31:04, from the first GO 19:32:10 to the last end 22:03:14`.
-pub fn run_words(alloc: Global, told: Told<'_>, run: Run) -> Result<String, AllocError> {
-    let seconds = run.seconds();
+// A length of time: `2:31:04`.
+fn length_words(alloc: Global, seconds: u64) -> Words {
     let (minutes, second) = (seconds / 60 % 60, seconds % 60);
-    let from = told.times.moment(alloc, run.from)?;
-    let to = told.times.moment(alloc, run.to)?;
-    format!(in alloc;
-        "{}:{minutes:02}:{second:02}, from the first GO {} to the last end {}",
-        seconds / 3600,
-        from.as_str(),
-        to.as_str()
-    )
+    format!(in alloc; "{}:{minutes:02}:{second:02}", seconds / 3600)
 }
 
-/// What the show is called.
-pub fn title_words(alloc: Global, names: &Names<'_>) -> Result<String, AllocError> {
-    shown_text(alloc, front_of(names.title))
+/// How long a stretch of the show was, and from when to when: `0:56:04, from 19:32:10 to 20:28:14`.
+pub fn run_words(told: Told<'_>, seconds: u64, stretch: Stretch, words: (&str, &str)) -> Words {
+    let (from, to) = words;
+    let length = length_words(told.alloc, seconds)?;
+    let (begun, ended) = (told.moment(stretch.from)?, told.moment(stretch.to)?);
+    let (length, begun, ended) = (length.as_str(), begun.as_str(), ended.as_str());
+    format!(in told.alloc; "{length}, from {from}{begun} to {to}{ended}")
+}
+
+/// From when to when an evening went: `Friday 2026-11-20, 19:30:12 to 21:34:00 UTC+01:00`.
+pub fn span_words(told: Told<'_>, evening: &Evening) -> Words {
+    let (Some(first), Some(last)) = (evening.first, evening.last) else {
+        return String::from_str(
+            told.alloc,
+            "no line of this file is one of the log of serve",
+        );
+    };
+    let day = told.times.date(told.alloc, first)?;
+    let (from, to) = (told.moment(first)?, told.moment(last)?);
+    let zone = told.times.zone(told.alloc)?;
+    let (day, zone) = (day.as_str(), zone.as_str());
+    format!(in told.alloc; "{day}, {} to {} {zone}", from.as_str(), to.as_str())
 }
 
 /// How many attempts ended how.
-pub fn totals_words(alloc: Global, totals: Totals) -> Result<String, AllocError> {
+pub fn totals_words(alloc: Global, totals: Totals) -> Words {
     let attempts = if totals.all == 1 {
         "attempt"
     } else {
         "attempts"
     };
+    let (all, complete) = (totals.all, totals.complete);
+    let (cancelled, failed) = (totals.cancelled, totals.failed);
     let mut text = format!(in alloc;
-        "{} {attempts}: {} complete, {} cancelled, {} failed",
-        totals.all, totals.complete, totals.cancelled, totals.failed
+        "{all} {attempts}: {complete} complete, {cancelled} cancelled, {failed} failed"
     )?;
     if totals.open > 0 {
         write!(text, ", {} without an end in this log", totals.open)?;
@@ -107,17 +70,25 @@ pub fn totals_words(alloc: Global, totals: Totals) -> Result<String, AllocError>
     Ok(text)
 }
 
+// So many lines of a kind, after a comma; nothing if there is none.
+#[tactic(auto, unfolding(crate::specs::Telling::some_words))]
+fn some_words(alloc: Global, count: u64, kind: &str) -> Words
+    ensures { IfOk result (λ text. string_bytes text ≡ spec.some_words count kind.now) }
+{
+    if count == 0 {
+        return Ok(String::new(alloc));
+    }
+    format!(in alloc; ", {count} {kind}")
+}
+
 /// How many lines were read.
-pub fn counts_words(alloc: Global, counts: Counts) -> Result<String, AllocError> {
-    let mut text = format!(in alloc; "lines: {} of the log", counts.told)?;
-    if counts.others > 0 {
-        write!(text, ", {} that are none of it", counts.others)?;
-    }
-    if counts.outside > 0 {
-        write!(text, ", {} of another time", counts.outside)?;
-    }
-    if counts.repeated > 0 {
-        write!(text, ", {} that stood there twice", counts.repeated)?;
-    }
-    Ok(text)
+pub fn counts_words(alloc: Global, counts: Counts) -> Words {
+    let others = some_words(alloc, counts.others, "that are none of it")?;
+    let outside = some_words(alloc, counts.outside, "of another time")?;
+    let repeated = some_words(alloc, counts.repeated, "that stood there twice")?;
+    let (others, outside, repeated) = (others.as_str(), outside.as_str(), repeated.as_str());
+    format!(in alloc;
+        "lines: {} of the log{others}{outside}{repeated}",
+        counts.told
+    )
 }

@@ -2,7 +2,6 @@
 
 /// The text between the tags of `style`.
 pub(super) const STYLE: &str = r#"
-@page { margin: 15mm; }
 body { margin: 2em auto; max-width: 60em; padding: 0 1em; background: #fff; color: #000;
   font: 11pt/1.35 "DejaVu Sans", Arial, sans-serif; }
 h1 { margin: 0; font-size: 1.6em; }
@@ -15,11 +14,18 @@ tr, .cues tbody { break-inside: avoid; }
 .cues tbody, .devices tr { border-top: 1px solid #777; }
 th, td { box-sizing: border-box; padding: 0.2em 0.5em; text-align: left; vertical-align: top; overflow-wrap: anywhere; }
 .cues { table-layout: fixed; }
-.cues thead th:nth-child(1) { width: 9%; }
-.cues thead th:nth-child(2) { width: 28%; }
-.cues thead th:nth-child(3) { width: 6%; }
-.cues thead th:nth-child(4) { width: 22%; }
-.cues thead th:nth-child(6) { width: 11%; }
+.cues thead th:nth-child(1) { width: 7%; }
+.cues thead th:nth-child(2) { width: 9%; }
+.cues thead th:nth-child(3) { width: 5%; }
+.cues thead th:nth-child(4) { width: 8%; }
+.cues thead th:nth-child(5) { width: 24%; }
+.cues thead th:nth-child(6) { width: 5%; }
+.cues thead th:nth-child(7) { width: 17%; }
+.cues thead th:nth-child(9) { width: 9%; }
+.room { border: 1px solid #777; }
+thead .room { padding: 0.2em 0.3em; font-size: 0.85em; }
+.written td { height: 2.4em; border: 1px solid #777; width: 25%; }
+.written td:last-child { width: 50%; }
 .devices th:nth-child(1) { width: 6%; }
 .devices th:nth-child(3) { width: 30%; }
 .number { text-align: right; }

@@ -1,11 +1,14 @@
 //! The command `report`: an evening, by the log of `serve`.
+mod marking;
+
 use cue_desk::ending::Ending;
 use cue_desk_line::{Form, Report};
 use cue_files_run::read_file;
-use cue_report::{Evening, Names, Range, csv, html, text};
-use cue_saying::say;
+use cue_report::{Evening, Names, Range, Told, csv, html, text};
+use cue_saying::{print, say};
 use cue_show_file::ShowFile;
-use std::alloc::AllocError;
+pub use marking::mark_curtain;
+use std::alloc::{AllocError, Global};
 use std::fs::{File, Files};
 use std::io::{self, Eprint, Read, Write};
 
@@ -13,20 +16,37 @@ use std::io::{self, Eprint, Read, Write};
 const PIECE: usize = 65_536;
 
 // Takes the names of a show file.
-fn add_names<'a>(names: &mut Names<'a>, file: &'a ShowFile) -> Result<(), AllocError> {
+fn names_of(alloc: Global, title: &str, file: &ShowFile) -> Result<Names, AllocError> {
+    let mut names = Names::new(alloc, title)?;
     for device in file.devices.iter() {
-        names.add_device(&device.number, device.name.as_deref().unwrap_or(""))?;
+        names.add_device(alloc, &device.number, device.name.as_deref().unwrap_or(""))?;
     }
     for cue in file.cues.iter() {
-        names.add_cue(&cue.number, cue.name.as_deref().unwrap_or(""))?;
+        names.add_cue(alloc, &cue.number, cue.name.as_deref().unwrap_or(""))?;
     }
-    Ok(())
+    Ok(names)
 }
 
 // Why a log was not read.
 fn unread<R: Eprint>(rt: &R, path: &str, why: &io::Error) -> Ending {
     say(rt, format_args!("{path}: {why}"));
     Ending::Failed
+}
+
+// Hears a file of marks, if there is one.
+fn hear_marks<R: Files<File = File> + AllocGlobal>(
+    rt: &R,
+    path: &str,
+    evening: &mut Evening,
+) -> io::Result<()> {
+    let mut text = Vec::new(rt.alloc());
+    let _ = File::open(rt, path)?.read_to_end(&mut text)?;
+    for line in text.split(|byte| *byte == b'\n') {
+        if !line.is_empty() {
+            evening.mark(line)?;
+        }
+    }
+    Ok(())
 }
 
 // Hears a log to its end, as many bytes at once as there is room for.
@@ -56,93 +76,34 @@ fn hear<R: Files<File = File> + AllocGlobal>(
     heard
 }
 
-// Puts a piece of the report out.
-fn put<W: Write>(writer: &mut W, piece: String) -> Result<(), Ending> {
-    match writer.write_all(piece.as_bytes()) {
-        Ok(()) => Ok(()),
-        Err(_) => Err(Ending::Unwritten),
+// The report as text: each line with its end.
+fn text_of(told: Told<'_>, evening: &Evening) -> Result<String, AllocError> {
+    let mut text = String::new(told.alloc);
+    for line in text::report_lines(told, evening)? {
+        text.push_str(line.as_str())?;
+        text.push('\n')?;
     }
-}
-
-// Sees that all of it left.
-fn flush<W: Write>(writer: &mut W) -> Result<(), Ending> {
-    match writer.flush() {
-        Ok(()) => Ok(()),
-        Err(_) => Err(Ending::Unwritten),
-    }
-}
-
-// The report as text, attempt by attempt.
-fn put_text<R: AllocGlobal, W: Write>(
-    rt: &R,
-    evening: &Evening,
-    names: &Names<'_>,
-    writer: &mut W,
-) -> Result<(), Ending> {
-    put(writer, text::head(rt.alloc(), evening, names)?)?;
-    for attempt in evening.attempts.iter() {
-        put(
-            writer,
-            text::attempt_text(rt.alloc(), evening, names, attempt)?,
-        )?;
-    }
-    put(writer, text::foot(rt.alloc(), evening, names)?)?;
-    flush(writer)
-}
-
-// The report as a page, attempt by attempt.
-fn put_page<R: AllocGlobal, W: Write>(
-    rt: &R,
-    evening: &Evening,
-    names: &Names<'_>,
-    writer: &mut W,
-) -> Result<(), Ending> {
-    put(writer, html::head(rt.alloc(), evening, names)?)?;
-    for attempt in evening.attempts.iter() {
-        put(
-            writer,
-            html::attempt_page(rt.alloc(), evening, names, attempt)?,
-        )?;
-    }
-    put(writer, html::foot(rt.alloc(), evening, names)?)?;
-    flush(writer)
-}
-
-// The report as a table, attempt by attempt.
-fn put_table<R: AllocGlobal, W: Write>(
-    rt: &R,
-    evening: &Evening,
-    names: &Names<'_>,
-    writer: &mut W,
-) -> Result<(), Ending> {
-    put(writer, String::from_str(rt.alloc(), csv::HEAD)?)?;
-    for attempt in evening.attempts.iter() {
-        put(
-            writer,
-            csv::attempt_row(rt.alloc(), evening, names, attempt)?,
-        )?;
-    }
-    flush(writer)
+    Ok(text)
 }
 
 // The report of an evening that was heard, with the names of a show file.
-fn put_report<'a, R: AllocGlobal, W: Write>(
-    rt: &R,
-    report: &'a Report,
+fn report_of(
+    alloc: Global,
+    report: &Report,
     evening: &Evening,
-    file: &'a ShowFile,
-    writer: &mut W,
-) -> Result<(), Ending> {
-    let mut names = Names::new(rt.alloc());
-    names.title = report.title.as_str();
-    add_names(&mut names, file)?;
-    let put = match report.form {
-        Form::Text => put_text(rt, evening, &names, writer),
-        Form::Page => put_page(rt, evening, &names, writer),
-        Form::Table => put_table(rt, evening, &names, writer),
+    file: &ShowFile,
+) -> Result<String, AllocError> {
+    let names = names_of(alloc, report.title.as_str(), file)?;
+    let told = Told {
+        alloc,
+        times: evening.times(),
+        names: &names,
     };
-    drop(names);
-    put
+    match report.form {
+        Form::Text => text_of(told, evening),
+        Form::Page => html::page_of(told, evening),
+        Form::Table => csv::table_of(told, evening),
+    }
 }
 
 // The part of a day between these minutes, with both.
@@ -170,11 +131,14 @@ pub fn report_evening<R: Files<File = File> + Eprint + AllocGlobal, W: Write>(
     let mut evening = Evening::new(rt.alloc());
     evening.ahead = i64::from(report.ahead) * 60;
     evening.range = range_of(report.from, report.to);
-    let reported = match hear(rt, log, &mut evening) {
-        Ok(()) => put_report(rt, report, &evening, &file, writer),
-        Err(why) => Err(unread(rt, log, &why)),
-    };
-    drop(evening);
-    drop(file);
-    reported
+    if let Err(why) = hear(rt, log, &mut evening) {
+        return Err(unread(rt, log, &why));
+    }
+    if let Some(marks) = report.marks.as_deref() {
+        if let Err(why) = hear_marks(rt, marks, &mut evening) {
+            return Err(unread(rt, marks, &why));
+        }
+    }
+    let told = report_of(rt.alloc(), report, &evening, &file)?;
+    print(writer, told.as_str())
 }

@@ -1,0 +1,60 @@
+//! Marks: when the curtain went up and down, as a stage manager writes it into a file beside the log.
+ghost use Rattle.std.specs.Prelude.{◌≡◌};
+ghost use Rattle.cue_report.specs.Marks as spec;
+
+use crate::dates::{date_of, dated};
+use std::alloc::{AllocError, Global};
+
+/// What the curtain did.
+#[derive(Clone, Copy, PartialEq, Eq)]
+pub enum Curtain {
+    Up,
+    Down,
+}
+
+/// A mark, and its second since 1970.
+#[derive(Clone, Copy)]
+pub struct Mark {
+    pub at: u64,
+    pub curtain: Curtain,
+}
+
+impl Curtain {
+    /// The words of a mark.
+    pub fn words(self) -> &'static str
+        ensures { result.now ≡ spec.words self }
+    {
+        match self {
+            Curtain::Up => "curtain up",
+            Curtain::Down => "curtain down",
+        }
+    }
+
+    /// What these words say; none if they are those of no mark.
+    pub fn of(words: &[u8]) -> Option<Curtain>
+        ensures { result ≡ spec.curtain_of words.now }
+    {
+        if words == b"curtain up".as_slice() {
+            Some(Curtain::Up)
+        } else if words == b"curtain down".as_slice() {
+            Some(Curtain::Down)
+        } else {
+            None
+        }
+    }
+}
+
+/// The mark that a line is: a date as the log has it, and what the curtain did; none if it is no mark.
+pub fn read_mark(line: &[u8]) -> Option<Mark> {
+    let (at, words) = dated(line)?;
+    match Curtain::of(words.trim_ascii()) {
+        Some(curtain) => Some(Mark { at, curtain }),
+        None => None,
+    }
+}
+
+/// The line of a mark.
+pub fn mark_line(alloc: Global, mark: Mark) -> Result<String, AllocError> {
+    let date = date_of(alloc, mark.at)?;
+    format!(in alloc; "{} {}\n", date.as_str(), mark.curtain.words())
+}

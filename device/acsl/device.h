@@ -200,9 +200,9 @@
       && same_phase{A, B}(d) && same_controller{A, B}(d); */
 
 /* The arrays of a device are as they were when the function was called: said one by one, each is a small goal. */
-#define STAYS(array, count) (\forall integer k; 0 <= k < count ==> array[k] == \at(array[k], Pre))
+#define STAYS(array, count) (\forall integer k; 0 <= k < (count) ==> (array)[k] == \at((array)[k], Pre))
 #define ARRAYS_STAY(d)                                                                                                 \
-    (STAYS(d->only.bytes, 8) && STAYS(d->cue, 16) && STAYS(d->bytes, 32) && STAYS(d->controller.bytes, 8))
+    (STAYS((d)->only.bytes, 8) && STAYS((d)->cue, 16) && STAYS((d)->bytes, 32) && STAYS((d)->controller.bytes, 8))
 
 /* ---- what a device makes of an order */
 

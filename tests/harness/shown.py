@@ -51,6 +51,7 @@ ELSEWHERE = (
     ("cuedesk new *", "tests/runs/sheet"),
     ("cuedesk sheet *", "tests/runs/sheet"),
     ("cuedesk report *", "tests/runs/report: it wants the log of an evening"),
+    ("cuedesk mark *", "tests/runs/report"),
     ("cuedesk go --wait*", "tests/runs/buttons"),
     ("cuedesk standby 12 13", "tests/runs/buttons"),
     ("export CUEDESK_*", "tests/runs/buttons and report"),

@@ -102,6 +102,7 @@ def line_of_now(page, evening):
     goes_to(page, "5")
     page.click("standby")
     check("the cue waits for a device", page.shows("live", "waiting for 22"))
+    time.sleep(1.2)  # within a second it is the same press, of a key that bounces
     page.key("s")
     check("STANDBY says why it is dark", page.shows("words", "STANDBY is not lit: cue ", 1))
     check("and nothing that is of GO", "no cue is stood by" not in page.text("words"))

@@ -5,6 +5,7 @@ use Rattle.cue_disk.specs.declared.disk.Disk.{Ghosts}
 use Rattle.cue_core.specs.State.{ShowState}
 use Rattle.cue_keeper.specs.Stands.{folded_all}
 use Rattle.cue_outbox.specs.Sending.{Send, datagram, datagrams}
+use Rattle.cue_keeper.specs.declared.keeper.Keeper.{Keeper}
 use Rattle.cue_engine.specs.declared.engine.Engine.{Engine}
 use Rattle.cue_engine.specs.Observed.{keeper_of, state_of, queue_of, first_of, second_of}
 use Rattle.cue_engine.specs.Given.{Input, given_of}
@@ -12,15 +13,16 @@ use Rattle.cue_engine.specs.Groups.{batches_given, sends_given}
 use Rattle.cue_engine.specs.Incidents.{Incident, stopped_in_commit, Store, running, Permits, Happens, left_by_all}
 use Rattle.cue_engine.specs.Headline.{all_handed}
 use Rattle.cue_engine.specs.Lives.{Life, store_now, RunsWith, view_of, IsSound}
-use Rattle.cue_engine.specs.Sources.{Answer}
+use Rattle.cue_engine.specs.Sources.{Answer, ends, fails, GaveAll}
 use Rattle.cue_engine.specs.Wires.{Handed}
 use Rattle.cue_engine.proofs.GroupLemmas.{is_a_run}
 use Rattle.cue_engine.proofs.LifeLemmas.{left_on, life_on, rests_more}
 use Rattle.cue_run.specs.declared.turns.Ended.{Ended}
 use Rattle.cue_run.specs.declared.turns.RunFault.{RunFault}
 use Rattle.cue_run.specs.declared.turns.RunFault.TheVariants as fault
-use Rattle.cue_run.specs.Running.{LeavesEither, Works, EndedBy, Ran}
-use Rattle.cue_run.specs.Lives.{turns_of, GoesThrough, EndsAtRest}
+use Rattle.cue_run.specs.Running.{given_answers, LeavesEither, Works, EndedBy, Ran}
+use Rattle.cue_run.specs.Lives.{turns_of, GaveLast, GoesThrough, EndsAtRest}
+use Rattle.cue_run.proofs.RunLemmas.{gave_none, came_join}
 
 -- ---- the turns of a run
 
@@ -44,13 +46,43 @@ turns_hand s owed (i ∷ is) =
     ap (λ (ms : List (ℕ × Send)). owed ++ ms) (turns_hand next ([] ++ sends_given s (i ∷ [])) is
     ∙ ap (λ (ms : List (ℕ × Send)). ms ++ sends_given next is) (append-nil (given_of s i.0 i.1).sends))
 
+-- ---- what the source gave last
+
+record CameLast (size asked turns : ℕ) (why : Option RunFault) (mid left_then : Option (List Answer)) : Type 0 where
+  refused : List (ℕ × Input)
+  after : List Answer
+  last : GaveLast asked turns why refused after
+  came : GaveAll size mid (given_answers refused ++ after) left_then
+
+came_last : {D : Type 0} {disk : Ghosts D} (size most asked turns : ℕ) (why : Option RunFault) (old new : Keeper D disk)
+    (mid left_then : Option (List Answer)) → EndedBy size most asked turns why old new mid left_then
+    → CameLast size asked turns why mid left_then
+came_last size most asked turns None old new mid left_then (inl all) =
+    record { refused = []; after = []; last = (refl, inl (all.0, refl)); came = rw all.1 (gave_none size mid) }
+came_last size most asked turns None old new mid left_then (inr end) =
+    record { refused = []; after = ends ∷ []; last = (refl, inr refl); came = end }
+came_last size most asked turns (Some fault.Source) old new mid left_then failed =
+    record { refused = []; after = fails ∷ []; last = (refl, refl); came = failed }
+came_last size most asked turns (Some (fault.Engine f)) old new mid left_then (inl none) = record {
+  refused = [];
+  after = [];
+  last = inl (none.0, none.1, refl, refl);
+  came = rw none.2 (gave_none size mid);
+}
+came_last size most asked turns (Some (fault.Engine f)) old new mid left_then (inr refuses) = record {
+  refused = refuses.inputs;
+  after = refuses.after;
+  last = inr (refuses.some, refuses.one_more);
+  came = refuses.came;
+}
+
 -- ---- a run
 
 module _ {D : Type 0} {disk : Ghosts D} {size most asked : ℕ} {ended : Ended} {old new : Engine D disk}
     {left left_then : Option (List Answer)} {told told_then : Option (List Handed)}
     (ran : Ran size most asked ended old new left left_then told told_then) (life : Life) where
   pub goes_through : RunsWith life (state_of old) (queue_of old)
-      → GoesThrough size ended.turns left told told_then life (state_of new)
+      → GoesThrough size asked ended left left_then told told_then life (state_of new)
   goes_through runs =
       let s : ShowState = state_of old in
       let inputs : List (ℕ × Input) = ran.taken.inputs in
@@ -58,11 +90,15 @@ module _ {D : Type 0} {disk : Ghosts D} {size most asked : ℕ} {ended : Ended} 
       let hands : datagrams (all_handed (store_now life) more) ≡ queue_of old ++ datagrams (sends_given s inputs) =
       rw (runs.runs, turns_hand s runs.owed inputs, runs.owes) (map-append datagram runs.owed (sends_given s inputs))
       in
+      let rest : CameLast size asked ended.turns ended.fault ran.mid left_then =
+      came_last size most asked ended.turns ended.fault (keeper_of old) (keeper_of new) ran.mid left_then ran.why in
       record {
         inputs = inputs;
-        left_then = ran.mid;
-        gave = ran.taken.gave;
+        refused = rest.refused;
+        after = rest.after;
         number = ran.taken.number;
+        last = rest.last;
+        came = came_join size left ran.mid left_then inputs rest.refused rest.after ran.taken.gave rest.came;
         runs = record {
           lived = life_on life more (running s runs.owed) runs.lived runs.runs (turns_happen s runs.owed inputs);
           owed = [];

@@ -16,8 +16,10 @@ use cue_engine::{Engine, Source, Wire};
 use std::alloc::Global;
 
 /// `run_grouped` in the life of a store: it goes on with a commit and a hand-out of each input that the run took, and
-/// has as handed over what the wire reports. However the run ended, by a fault of a device too, the engine may be
-/// closed then, and the store recovered: the life goes on at rest. It went in steps, from hand-out to commit and from
+/// has as handed over what the wire reports. If the source says what it has left, those inputs are what it gave first,
+/// and after them it gave only what ended the run: nothing, if the run had its turns; the end, or a fault; or inputs that
+/// were refused together, and at most one answer more. However the run ended, by a fault of a device too, the engine may
+/// be closed then, and the store recovered: the life goes on at rest. It went in steps, from hand-out to commit and from
 /// commit to hand-out. If the disks were sound, the promise holds at each moment of them within it, whatever a crash
 /// leaves there: of the steps before, and of the one that is cut off.
 pub fn run_grouped<D: Disk, S: Source, W: Wire, V: Watch<W>>(
@@ -30,8 +32,8 @@ pub fn run_grouped<D: Disk, S: Source, W: Wire, V: Watch<W>>(
     watch: &mut V,
 ) -> Ended
     ensures goes_on { InEachLifeWith (state_of engine.old) (queue_of engine.old)
-        (λ life. GoesThrough MAX_RECEIVED result.turns (S.left source.old) (W.told wire.old) (W.told wire.new) life
-        (state_of engine.new)) }
+        (λ life. GoesThrough MAX_RECEIVED turns result (S.left source.old) (S.left source.new) (W.told wire.old)
+        (W.told wire.new) life (state_of engine.new)) }
     ensures rests { IsSound (view_of engine.old) → InEachLifeWith (state_of engine.new) []
         (λ life. EndsAtRest life (D.held (first_of engine.new)) (D.held (second_of engine.new))) }
     ensures through { RunsThrough MAX_RECEIVED result.turns engine.old engine.new
@@ -49,8 +51,8 @@ pub fn run<D: Disk, S: Source, W: Wire>(
     turns: u64,
 ) -> Ended
     ensures goes_on { InEachLifeWith (state_of engine.old) (queue_of engine.old)
-        (λ life. GoesThrough MAX_RECEIVED result.turns (S.left source.old) (W.told wire.old) (W.told wire.new) life
-        (state_of engine.new)) }
+        (λ life. GoesThrough MAX_RECEIVED turns result (S.left source.old) (S.left source.new) (W.told wire.old)
+        (W.told wire.new) life (state_of engine.new)) }
     ensures rests { IsSound (view_of engine.old) → InEachLifeWith (state_of engine.new) []
         (λ life. EndsAtRest life (D.held (first_of engine.new)) (D.held (second_of engine.new))) }
     ensures through { RunsThrough MAX_RECEIVED result.turns engine.old engine.new

@@ -1,0 +1,10 @@
+pub mod TurnLemmas
+mod ReplyLemmas
+pub mod LifeLemmas
+pub mod LawLemmas
+mod StepLemmas
+mod OftenLemmas
+mod TimeLemmas
+mod PlanLemmas
+mod AddLemmas
+mod TwiceLemmas

@@ -220,15 +220,24 @@ def full_text():
     return "\n".join(devices + cues)
 
 
-def write_status(path, devices, now=None, moving=()):
-    """What a relay says of these devices: for each the seconds since it was heard, or none, and whether it is silent;
-    and which of them were ordered to go, and have not answered."""
+def order_words(number, silent, told):
+    """What a device was ordered and has not answered, and what is known of its motions."""
+    for words, devices in told.items():
+        if number in devices:
+            return f" {words} {devices[number]}"
+    return " standby silent" if silent else ""
+
+
+def write_status(path, devices, now=None, **told):
+    """What a relay says of these devices: for each the seconds since it was heard, or none, and whether it is silent.
+    `going`, `moving` and `over` have devices, each with an attempt: in which it was sent GO, and that order or another
+    one is the last; and up to which its motions are over."""
     now = time.time_ns() // 10**6 if now is None else now
-    lines = [f"relay 2 {now}", "passed 7 lost 0 dropped 2"]
+    lines = [f"relay 3 {now}", "passed 7 lost 0 dropped 2"]
     for number, (ago, silent) in devices.items():
         heard = "never" if ago is None else f"heard {now - 1000 * ago}"
-        order = " go" if number in moving else " standby silent" if silent else ""
-        lines.append(f"device {number} 10.0.7.31:{9000 + number} {heard}{order}")
+        words = {"go moving": told.get("going", {}), "moving": told.get("moving", {}), "over": told.get("over", {})}
+        lines.append(f"device {number} 10.0.7.31:{9000 + number} {heard}{order_words(number, silent, words)}")
     path.with_suffix(".new").write_text("\n".join([*lines, "end", ""]))
     path.with_suffix(".new").rename(path)
 
@@ -238,13 +247,14 @@ class Telling(threading.Thread):
 
     def __init__(self, path, devices):
         super().__init__(daemon=True)
-        self.path, self.devices, self.moving, self.ends = path, devices, (), threading.Event()
+        self.path, self.devices, self.ends = path, devices, threading.Event()
+        self.told = {}
         self.has_stopped = False
 
     def run(self):
         while not self.ends.wait(0.1):
             if not self.has_stopped:
-                write_status(self.path, self.devices, moving=self.moving)
+                write_status(self.path, self.devices, **self.told)
 
     def __enter__(self):
         self.start()

@@ -196,6 +196,35 @@ def open_go_again(page, evening):
     check("it is given", ends(page, "1", "complete"))
 
 
+def killed_open(page, evening):
+    """serve is killed while a GO is open: what was sent to it is carried out no more."""
+    stood_by(page, evening, "1")
+    evening.serve.hold()
+    page.key(" ")
+    check("the GO is open", page.shows("words", "nobody has replied", 1))
+    check("the silent serve may still give it", page.shows("live", "held, GO may still be given", 4))
+    evening.serve.kill()
+    check("a dead one gives it no more", page.waits_for(lambda: "may still be given" not in page.text("live"), 1))
+    check("and GO is dark", "GO is dark" in page.text("live") and dark(page))
+    evening.serves(evening.folder)
+    check("serve there again: the cue is cancelled", ends(page, "1", "cancelled: the controller was started again"))
+    check("and the GO was not carried out", page.shows("words", "the store shows that it was not carried out", 3))
+
+
+def gone(page, evening):
+    """The folder is moved away while a cue is ready: nothing is lit, and nothing is said of what cannot be seen."""
+    stood_by(page, evening, "1")
+    away = evening.folder.with_name("away")
+    evening.folder.rename(away)
+    check("an alarm, and GO is dark", page.waits_for(lambda: dark(page) and "not there" in page.text("alarms"), 0.6))
+    check("it is not said to be made", page.shows("words", "whether the cue still stands by cannot be seen", 0.2))
+    away.rename(evening.folder)
+    check("there again: GO is lit", is_lit(page, "1"))
+    check("and the STANDBY is made", page.shows("words", "standby 1: made"))
+    page.key(" ")
+    check("it is given", ends(page, "1", "complete"))
+
+
 def end_of_stack(page, evening):
     """A standby that is cancelled after the last cue makes no cue 1 next."""
     evening.play()
@@ -220,6 +249,7 @@ def stopped_desk(page, evening):
     os.kill(evening.page.pid, signal.SIGSTOP)
     page.key(" ")
     check("a page without views is dark in a second", page.waits_for(lambda: dark(page), 1.6))
+    check("and its card says of when it is", page.shows("live", "was preparing when this was read", 0.3))
     time.sleep(1.0)
     os.kill(evening.page.pid, signal.SIGCONT)
     check("the press was not sent", page.shows("words", "not sent: ", 3))
@@ -242,6 +272,18 @@ def started_again(page, evening):
     stood_by(page, evening, "1")
     page.key(" ")
     check("and its presses are carried out", ends(page, "1", "complete"))
+    stood_by(page, evening, "1")
+    evening.serve.hold()
+    page.key(" ")
+    check("a GO is open", page.shows("words", "nobody has replied", 1))
+    page.run("window.isOld = true")
+    evening.stop("page")
+    evening.start_page()
+    check("the page loads itself again", page.waits_for(lambda: page.run("return !window.isOld"), 5))
+    check("and still says that it was open", page.shows("words", "was open when the desk was started again", 3))
+    evening.serve.go_on()
+    check("which the store shows", ends(page, "1", "complete"))
+    evening.read_token()
 
 
 def late_reply(page, evening):
@@ -280,14 +322,14 @@ def late_reply(page, evening):
 
 
 def short_hazards(desk, cuectl, work):
-    """Those that the gate runs: GO beside a dead controller, and beside a desk that is stopped."""
-    played(desk, cuectl, work, (dies, stopped_desk))
+    """Those that the gate runs: GO without the store, beside a dead controller, and beside a desk that is stopped."""
+    played(desk, cuectl, work, (gone, dies, stopped_desk))
 
 
 def hazards(desk, cuectl, work):
     """Each of them."""
-    played(desk, cuectl, work, (dies, over, two_ready, two_at_once, open_go, open_go_again, end_of_stack, stopped_desk,
-                                started_again, late_reply, lambda page, evening: another(page, evening, work)))
+    played(desk, cuectl, work, (dies, over, two_ready, two_at_once, open_go, open_go_again, killed_open, gone, end_of_stack,
+                                stopped_desk, started_again, late_reply, lambda page, evening: another(page, evening, work)))
 
 
 def played(desk, cuectl, work, scenes):

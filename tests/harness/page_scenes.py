@@ -39,6 +39,18 @@ def goes_to(page, cue):
     check(f"cue {cue} is next", page.shows("standby-cue", f"cue {cue}"))
 
 
+def stands_by_key(page, cue):
+    """The key S, as soon as STANDBY is lit: it is dark until the store shows the last press. Where the line says that
+    the press did nothing, it is pressed again, and the line is printed."""
+    for _ in range(3):
+        check("STANDBY is lit", page.waits_for(lambda: page.find("standby").is_enabled()))
+        page.key("s")
+        if page.waits_for(lambda: page.find("go").is_enabled() and page.text("go-cue") == f"cue {cue}", 4):
+            break
+        print(f"     the line says: {page.text('words')}; GO says: {page.text('go')}", flush=True)
+    check("S stands by", is_lit(page, cue))
+
+
 def is_lit(page, cue=None):
     """Whether GO lights in time, for this cue."""
     return page.waits_for(lambda: page.find("go").is_enabled() and (cue is None or page.text("go-cue") == f"cue {cue}"))
@@ -108,9 +120,12 @@ def line_of_now(page, evening):
     check("and nothing that is of GO", "no cue is stood by" not in page.text("words"))
     page.key(" ")
     check("GO says why it is dark", page.shows("words", "GO is not lit: cue 5 waits for device 22", 1))
+    begun = time.monotonic()
     check("the device is released elsewhere", evening.tells("release", "22"))
     check("GO lights", is_lit(page, "5"))
+    was_brief = time.monotonic() - begun < 0.7
     check("and the line no longer says that it is not", page.waits_for(lambda: "not lit" not in page.text("words"), 0.7))
+    check("but that the press did nothing", not was_brief or "GO was dark when it was pressed" in page.text("words"))
     page.key(ESCAPE)
     check("the cue is given up", ends(page, "5", "cancelled"))
 
@@ -142,8 +157,7 @@ def is_refused(page, evening):
 
 def keys(page, evening):
     goes_to(page, "1")
-    page.key("s")
-    check("S stands by", is_lit(page, "1"))
+    stands_by_key(page, "1")
     page.key(" ")
     page.key(" ")
     check("a second tap is never said to be not sent",
@@ -165,8 +179,7 @@ def keys(page, evening):
 def fields(page):
     """A space that goes into a field while a cue waits for GO."""
     goes_to(page, "1")
-    page.key("s")
-    check("GO lights again", is_lit(page, "1"))
+    stands_by_key(page, "1")
     page.click("find")
     page.key(" ")
     check("a space in a field gives no GO, and says so", page.shows("words", "gave no GO: press Esc", 1))
@@ -294,6 +307,9 @@ def follows(page, evening, cues=("1", "2", "3", "4", "1")):
           is_checked(evening.desk) or (statistics.median(found) <= 350 and max(found) < 500))
 
 
+MOVING = "was released, and may still move"
+
+
 def stays_in_sight(page, evening, relay):
     """A device is released while it moves: until it has answered, the page says that it may still move."""
     evening.play(move=25000)
@@ -304,7 +320,8 @@ def stays_in_sight(page, evening, relay):
         check("GO lights", is_lit(page, "3"))
         page.click("go")
         check("it is given", page.shows("live", "given"))
-        told.moving, told.has_stopped = (4,), True
+        moves = {4: evening.view()["live"][0]["attempt"]}
+        told.told, told.has_stopped = {"going": moves}, True
         check("a relay that stops is said to be silent at once", page.shows("age", "relay silent for", 1.0))
         check("then it is an alarm, with what moves once it is back",
               page.shows("alarm-0", "each of these that it reaches may move at once: device 4"))
@@ -316,14 +333,29 @@ def stays_in_sight(page, evening, relay):
         releases(page, 20)
         check("it ends", ends(page, "3", "failed"))
         check("what has not answered stays in sight", page.shows("alarms", "was released: it may still move"))
-        told.devices, told.moving = {4: (None, False)}, ()
+        told.devices, told.told = {4: (None, False)}, {}
         time.sleep(0.5)
         check("a relay that has not heard it knows no better", "it may still move" in page.text("alarms"))
+        page.open(f"http://127.0.0.1:{evening.http}/")
+        check("nor does a page that was loaded again", page.shows("alarms", "may still move", 3))
         told.devices = {4: (1, False)}
+        time.sleep(0.5)
+        check("nor one that has heard something of it", "it may still move" in page.text("alarms"))
+        told.told = {"moving": moves}
+        check("one that aborted another cue since may still move",
+              page.shows("heard-4", "may still move, heard", 2) and "may still move" in page.text("alarms"))
+        told.told = {"over": moves}
         check("once it has answered nobody knows which it was", page.shows("alarms", "aborted or released"))
+        past = "return document.getElementById('past').textContent"
         check("nor do the attempts that have ended say more",
-              "may still move" not in page.run("return document.getElementById('past').textContent"))
+              page.waits_for(lambda: "may still move" not in page.run(past), 1))
+        told.told = {"going": moves}
+        check("one more order that it has not answered", page.shows("alarms", MOVING, 3))
+        page.click("still-4")
+        check("somebody says that it stands still", page.waits_for(lambda: MOVING not in page.text("alarms"), 1))
+        page.open(f"http://127.0.0.1:{evening.http}/")
         check("it was seen", sees(page))
+        check("which stays said", page.waits_for(lambda: MOVING not in page.text("alarms"), 1))
     evening.stop("devices")
 
 
@@ -335,7 +367,7 @@ def hears(page, evening, relay, pictures):
     write_status(relay, {4: (3, False), 20: (3, False), 22: (None, False)})
     check("when a device was heard stands there", page.shows("heard-4", "heard "))
     check("with its name", SHOWN in page.text("heard"))
-    check("and that one was never heard", page.shows("heard-22", "never heard"))
+    check("and that one was not heard", page.shows("heard-22", "not heard since the relay started"))
     goes_to(page, "5")
     page.click("standby")
     write_status(relay, {4: (4, False), 20: (4, False), 22: (None, False)})

@@ -8,8 +8,8 @@ from checking import check
 from page_guard import guards
 from page_list import lists
 from page_look import is_allowed, is_kept, sounded, sounds
-from page_scenes import (begins, ends, fails, follows, gives, goes_back, goes_to, is_lit, is_readable, is_refused, keys,
-                         line_of_now, loses_power, prepares, second_tab, stand_by_together)
+from page_scenes import (begins, ends, fails, follows, gives, goes_back, goes_to, is_readable, is_refused, keys,
+                         line_of_now, loses_power, prepares, second_tab, stand_by_together, stands_by_key)
 
 
 def sends_nothing(page, evening):
@@ -51,8 +51,7 @@ def keys_in_browser(evening):
         line_of_now(page, evening)
         is_refused(page, evening)
         goes_to(page, "1")
-        page.key("s")
-        check("S stands by", is_lit(page, "1"))
+        stands_by_key(page, "1")
         page.key(" ")
         check("the space bar is GO", ends(page, "1", "complete"))
         check("the browser has nothing against the page", page.complaints() == [])

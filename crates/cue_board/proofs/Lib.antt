@@ -1,2 +1,2 @@
 pub mod BoardLemmas
-pub mod ColumnLemmas
+pub mod RoomLemmas

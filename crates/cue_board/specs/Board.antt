@@ -1,5 +1,6 @@
 -- The board: what each line says of the view, from its front on. Names and notes of the show file follow after that.
-use Rattle.std.specs.Prelude.{◌≡◌, ℕ, suc, Bool, true, false, ◌&&◌, ◌==◌, nat_le, length, replicate, ◌-◌, ◌/◌, find}
+use Rattle.std.specs.Prelude.{◌≡◌, ◌≤◌, ◌⊎◌, ℕ, suc, Bool, true, false, ◌&&◌, ◌==◌, nat_le, length, replicate, count_by}
+use Rattle.std.specs.Prelude.{◌+◌, ◌-◌, ◌/◌, find}
 use Rattle.std.specs.Prelude.{List, [], ◌∷◌, ◌++◌, map, take, drop, codes, string_bytes}
 use Rattle.std.specs.Prelude.{Option, None, Some, is_some, nat_eq, if◌then◌else◌}
 use Rattle.std.specs.Fmt.{decimal}
@@ -22,14 +23,14 @@ use Rattle.cue_view.specs.declared.view.View.{View}
 use Rattle.cue_view.specs.Late.{relay_late, serve_late}
 use Rattle.cue_view.specs.Sight.{is_in_sight}
 use Rattle.cue_board.specs.Alarms.{alarm_words}
-use Rattle.cue_board.specs.Columns.{fit_of}
-use Rattle.cue_board.specs.Ends.{last_said}
+use Rattle.cue_columns.specs.Columns.{fit_of}
+use Rattle.cue_board.specs.Ends.{last_said, last_takes}
 use Rattle.cue_board.specs.Progress.{progress_of}
 use Rattle.cue_board.specs.Times.{seconds}
 use Rattle.cue_board.specs.Together.{with_said}
 use Rattle.cue_show_file.specs.Together.{others_of}
 use Rattle.cue_show_file.specs.declared.together.Group.{Group}
-use Rattle.cue_board.specs.declared.columns.TheConstants.{COLUMNS}
+use Rattle.cue_columns.specs.declared.columns.TheConstants.{COLUMNS}
 use Rattle.cue_board.specs.declared.line.BoardLine.{BoardLine}
 use Rattle.cue_board.specs.declared.live.TheConstants.{NAME_AT}
 use Rattle.cue_board.specs.declared.names.Names.{Names}
@@ -240,18 +241,19 @@ abbrev pub age_said : ℕ → Option ℕ → List ℕ
 age_said at (Some read) = codes "READ   " ++ (seconds (at - read) ++ codes " s ago")
 age_said at None = codes "READ   nothing yet"
 
--- for how long the controller is silent, if it is late; and the relay
-abbrev pub serve_said : Option ℕ → List ℕ
-serve_said (Some silent) = codes "; serve silent for " ++ (seconds silent ++ codes " s")
-serve_said None = []
+-- for how long it is silent, if it is late
+unfoldable pub silent_for : List ℕ → List ℕ → List ℕ
+silent_for who silent = codes "; " ++ (who ++ (codes " silent for " ++ (silent ++ codes " s")))
 
-abbrev pub relay_said : Option ℕ → List ℕ
-relay_said (Some silent) = codes "; relay silent for " ++ (seconds silent ++ codes " s")
-relay_said None = []
+abbrev pub late_said : List ℕ → Option ℕ → List ℕ
+late_said who (Some silent) = silent_for who (seconds silent)
+late_said who None = []
 
 -- the age, and who is late
 abbrev pub read_said : View → List ℕ
-read_said v = age_said v.at v.read ++ (serve_said (serve_late v) ++ relay_said (relay_late v))
+read_said v =
+    age_said v.at v.read
+    ++ (late_said (codes "serve") (serve_late v) ++ late_said (codes "relay") (relay_late v))
 
 -- the attempt that ended last, and the age of what is shown
 abbrev pub ends_said : Names → View → List (List ℕ)
@@ -274,15 +276,38 @@ board_brief names v =
 abbrev pub board_said : ℕ → Names → View → List (List ℕ)
 board_said shown names v = if shown == 0 then board_brief names v else board_with shown names v
 
+-- ---- how many cues it shows
+
+-- how many lines it takes what moves by itself, and an alarm with it
+abbrev pub owed_takes : Alarm → List LiveAttempt → ℕ
+owed_takes a live = if holds_back a then count_by is_owed live else 0
+
+abbrev pub called_takes : View → Option Alarm → ℕ
+called_takes v None = 0
+called_takes v (Some a) = 1 + owed_takes a v.live.items
+
+abbrev pub alarm_takes : View → ℕ
+alarm_takes v = called_takes v (loudest v)
+
 -- the lines that the live attempts leave of so many: each has one, and one for each of its devices
 abbrev pub room_after : ℕ → List LiveAttempt → ℕ
 room_after room [] = room
 room_after room (a ∷ live) = room_after (room - 1 - length a.devices) live
 
+-- if there is none, one line says so
+abbrev pub room_beside_live : ℕ → List LiveAttempt → ℕ
+room_beside_live room [] = room - 1
+room_beside_live room (a ∷ live) = room_after room (a ∷ live)
+
 -- how many cues have room beside these attempts and the lines that are always there
 abbrev pub cues_within : ℕ → List LiveAttempt → ℕ
 cues_within room live =
-    if nat_le SHOWN (room_after (room - ALWAYS) live) then SHOWN else room_after (room - ALWAYS) live
+    if nat_le SHOWN (room_beside_live (room - ALWAYS) live) then SHOWN else room_beside_live (room - ALWAYS) live
+
+-- how many cues are shown, if what a relay says takes so many lines
+abbrev pub cues_in : Option ℕ → View → ℕ → ℕ
+cues_in None v taken = SHOWN
+cues_in (Some room) v taken = cues_within (room - taken - alarm_takes v - last_takes v.last) v.live.items
 
 -- what a line says of the view
 unfoldable pub said_of : BoardLine → List ℕ
@@ -309,3 +334,8 @@ pub record Begin (fronts lines : List (List ℕ)) : Type 0 where
   pub heard : List (List ℕ)
   pub whole : lines ≡ first ++ heard
   pub each : EachBegins fronts first
+
+-- The lines have room; or no cue is shown, and the devices share lines: nothing more can give way.
+abbrev pub HasRoom : Option ℕ → Names → View → List (List ℕ) → Type 0
+HasRoom None names v lines = Unit {0}
+HasRoom (Some room) names v lines = (length lines ≤ room) ⊎ Begin (board_brief names v) lines

@@ -1,12 +1,12 @@
 -- How attempts ended, in words, with the names of their devices.
-use Rattle.std.specs.Prelude.{ℕ, ◌==◌, length, map, List, [], ◌∷◌, ◌++◌, codes, Option, None, Some, if◌then◌else◌}
+use Rattle.std.specs.Prelude.{ℕ, ◌+◌, ◌==◌, length, map, List, [], ◌∷◌, ◌++◌, codes, Option, None, Some, if◌then◌else◌}
 use Rattle.std.specs.Fmt.{decimal}
 use Rattle.cue_exchange.specs.declared.attempt.Outcome.{Outcome}
 use Rattle.cue_exchange.specs.declared.attempt.Outcome.TheVariants as outcome
 use Rattle.cue_exchange.specs.declared.attempt.Reason.{Reason}
 use Rattle.cue_words.specs.Answered.{outcome_words, reason_words}
 use Rattle.cue_view.specs.declared.view.Told.{Told}
-use Rattle.cue_board.specs.Columns.{fit_of}
+use Rattle.cue_columns.specs.Columns.{fit_of}
 use Rattle.cue_board.specs.Names.{cue_name, device_name}
 use Rattle.cue_board.specs.declared.ends.TheConstants.{NAME}
 use Rattle.cue_board.specs.declared.names.Names.{Names}
@@ -66,3 +66,8 @@ none_said = codes "LAST   no attempt has ended yet"
 abbrev pub last_said : Names → Option Told → List (List ℕ)
 last_said names None = none_said ∷ []
 last_said names (Some t) = told_lines names t
+
+-- how many lines that takes
+abbrev pub last_takes : Option Told → ℕ
+last_takes None = 1
+last_takes (Some t) = 1 + (length t.failed + length t.excused)

@@ -1,6 +1,5 @@
 pub mod Alarms
 pub mod Board
-pub mod Columns
 pub mod Ends
 pub mod Names
 pub mod Network

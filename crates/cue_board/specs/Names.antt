@@ -4,6 +4,8 @@ use Rattle.std.specs.declared.alloc.Global.{Global}
 use Rattle.cue_show.specs.Number.{same_text}
 use Rattle.cue_show_file.specs.declared.file.CueEntry.{CueEntry}
 use Rattle.cue_show_file.specs.declared.file.DeviceEntry.{DeviceEntry}
+use Rattle.cue_view.specs.declared.view.Next.{Next}
+use Rattle.cue_view.specs.declared.view.Next.TheVariants as next
 use Rattle.cue_board.specs.declared.names.Names.{Names}
 
 -- a text that may be missing
@@ -33,6 +35,15 @@ cue_name names cue = name_of (cue_entry names cue)
 
 abbrev pub cue_note : Names → List ℕ → List ℕ
 cue_note names cue = note_of (cue_entry names cue)
+
+-- the same of the cue that is next, if there is one
+abbrev pub next_name : Names → Next → List ℕ
+next_name names (next.Cue cue) = cue_name names cue
+next_name names _ = []
+
+abbrev pub next_note : Names → Next → List ℕ
+next_note names (next.Cue cue) = cue_note names cue
+next_note names _ = []
 
 -- the first entry of the device
 abbrev pub device_in : ℕ → List DeviceEntry → Option DeviceEntry

@@ -1,18 +1,19 @@
 //! The board: what an operator sees of a show. Lines of text that are made of one view and the names of a show file,
 //! and of nothing else.
-ghost use Rattle.std.specs.Prelude.{◌≡◌, ◌++◌, [], ◌∷◌, IfOk, OnOk, Some, ℕ, codes, map, string_bytes};
+ghost use Rattle.std.specs.Prelude.{◌≡◌, ◌+◌, ◌-◌, ◌++◌, [], ◌∷◌, IfOk, OnOk, Some, ℕ, codes, length, map};
+ghost use Rattle.std.specs.Prelude.{string_bytes};
 ghost use Rattle.cue_board.specs.Board as board;
 ghost use Rattle.cue_board.specs.Board.{Begin, said_of};
-ghost use Rattle.cue_board.specs.Columns.{AreFit};
+ghost use Rattle.cue_columns.specs.Columns.{AreFit};
 
 use crate::brief::push_live_brief;
-use crate::ends::{last_takes, push_last};
+use crate::ends::{push_last, room_beside_last};
 use crate::faults::{live_of, words_of};
 use crate::line::{BoardLine, texts};
 use crate::live::push_live;
 use crate::names::Names;
 use crate::network::heard_lines;
-use crate::owed::{owed_at_most, push_owed};
+use crate::owed::{owed_takes, push_owed};
 use crate::stack::{SHOWN, cues_within, push_stack};
 use crate::times::seconds;
 use cue_view::view::{Alarm, LiveAttempt, View};
@@ -89,29 +90,23 @@ fn push_alarm(
     Ok(())
 }
 
-// For how long the controller is silent, if it is late.
-fn serve_said(alloc: Global, late: Option<u64>) -> Result<String, AllocError>
-    ensures { IfOk result (λ text. string_bytes text ≡ board.serve_said late) }
+// That it is silent for so long.
+#[tactic(auto, unfolding(crate::specs::Board::silent_for))]
+fn silent_for(alloc: Global, who: &str, silent: &str) -> Result<String, AllocError>
+    ensures { IfOk result (λ text. string_bytes text ≡ board.silent_for who.now silent.now) }
 {
-    match late {
-        Some(millis) => {
-            let silent = seconds(alloc, millis)?;
-            let silent = silent.as_str();
-            Ok(format!(in alloc; "; serve silent for {silent} s")?)
-        }
-        None => Ok(String::new(alloc)),
-    }
+    Ok(format!(in alloc; "; {who} silent for {silent} s")?)
 }
 
-// The same of the relay.
-fn relay_said(alloc: Global, late: Option<u64>) -> Result<String, AllocError>
-    ensures { IfOk result (λ text. string_bytes text ≡ board.relay_said late) }
+// For how long it is silent, if it is late: `serve` or the relay.
+fn late_said(alloc: Global, who: &str, late: Option<u64>) -> Result<String, AllocError>
+    ensures { IfOk result (λ text. string_bytes text ≡ board.late_said who.now late) }
 {
     match late {
         Some(millis) => {
             let silent = seconds(alloc, millis)?;
-            let silent = silent.as_str();
-            Ok(format!(in alloc; "; relay silent for {silent} s")?)
+            let text = silent_for(alloc, who, silent.as_str())?;
+            Ok(text)
         }
         None => Ok(String::new(alloc)),
     }
@@ -136,8 +131,8 @@ fn read_said(alloc: Global, view: &View) -> Result<String, AllocError>
     ensures { IfOk result (λ text. string_bytes text ≡ board.read_said view.now) }
 {
     let age = age_said(alloc, view)?;
-    let serve = serve_said(alloc, view.serve_late())?;
-    let relay = relay_said(alloc, view.relay_late())?;
+    let serve = late_said(alloc, "serve", view.serve_late())?;
+    let relay = late_said(alloc, "relay", view.relay_late())?;
     let (age, serve, relay) = (age.as_str(), serve.as_str(), relay.as_str());
     Ok(format!(in alloc; "{age}{serve}{relay}")?)
 }
@@ -203,26 +198,33 @@ fn lines_of(
     }
 }
 
-// How many cues are shown, if the network takes so many lines. One line of the last attempt is there in any case.
-fn cues_in(room: Option<usize>, view: &View, taken: usize) -> usize {
-    let alarms = match loudest(view) {
-        Some(alarm) => owed_at_most(&alarm, &view.live).saturating_add(1),
-        None => 0,
-    };
-    let ends = last_takes(&view.last).saturating_sub(1);
+// What the alarm, and what moves once it is over, leave of so many lines.
+fn room_beside_alarm(room: usize, view: &View) -> usize
+    ensures { result ≡ room - board.alarm_takes view.now }
+{
+    match loudest(view) {
+        Some(alarm) => room
+            .saturating_sub(1)
+            .saturating_sub(owed_takes(&alarm, &view.live)),
+        None => room,
+    }
+}
+
+// How many cues are shown, if what a relay says takes so many lines.
+fn cues_in(room: Option<usize>, view: &View, taken: usize) -> usize
+    ensures { result ≡ board.cues_in room view.now taken }
+{
     match room {
-        Some(room) => cues_within(
-            room.saturating_sub(taken)
-                .saturating_sub(alarms)
-                .saturating_sub(ends),
-            &view.live,
-        ),
+        Some(room) => {
+            let left = room_beside_alarm(room.saturating_sub(taken), view);
+            cues_within(room_beside_last(left, &view.last), &view.live)
+        }
         None => SHOWN,
     }
 }
 
 // The lines as they are shown, and after them what a relay says.
-#[tactic(auto, using(crate::proofs::BoardLemmas::begin_drawn))]
+#[tactic(auto, using(crate::proofs::BoardLemmas::begin_drawn, crate::proofs::RoomLemmas::count_drawn))]
 fn drawn(
     alloc: Global,
     lines: &[BoardLine],
@@ -231,6 +233,7 @@ fn drawn(
     requires { AreFit heard.items }
     ensures said { IfOk result (λ all. Begin (map said_of lines.now) (map string_bytes all.items)) }
     ensures fit { IfOk result (λ all. AreFit all.items) }
+    ensures count { IfOk result (λ all. length all.items ≡ length lines.now + length heard.items) }
 {
     let mut all = texts(alloc, lines)?;
     all.append(&mut heard)?;
@@ -242,9 +245,10 @@ fn drawn(
 /// last one ended, the age of what is shown, and what a relay says. What does not fit into a line is cut off at its
 /// end.
 ///
-/// `room` is how many lines there are; none: as many as it takes. The stack has fewer cues if the live attempts need
-/// the room. If no cue has room any more, the devices of an attempt that have answered the same share a line, by
-/// their numbers.
+/// `room` is how many lines there are; none: as many as it takes. The stack has fewer cues if other lines need the
+/// room. If no cue has room any more, the devices of an attempt that have answered the same share a line, by their
+/// numbers; a board that shows a cue has no more than `room` lines.
+#[tactic(auto, using(crate::proofs::RoomLemmas::has_room))]
 pub fn board_lines(
     alloc: Global,
     view: &View,
@@ -254,6 +258,7 @@ pub fn board_lines(
     ensures said { IfOk result (λ lines. (shown : ℕ)
         × Begin (board.board_said shown names.now view.now) (map string_bytes lines.items)) }
     ensures fit { IfOk result (λ lines. AreFit lines.items) }
+    ensures room { IfOk result (λ lines. board.HasRoom room names.now view.now (map string_bytes lines.items)) }
 {
     let heard = heard_lines(alloc, &view.network)?;
     let shown = cues_in(room, view, heard.len());

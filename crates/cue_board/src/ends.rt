@@ -1,11 +1,11 @@
 //! How an attempt ended, and a line for each of its devices that failed or that it went without.
-ghost use Rattle.std.specs.Prelude.{◌≡◌, ◌++◌, IfOk, OnOk, map, string_bytes};
+ghost use Rattle.std.specs.Prelude.{◌≡◌, ◌-◌, ◌++◌, IfOk, OnOk, map, string_bytes};
 ghost use Rattle.cue_board.specs.Ends as ends;
 ghost use Rattle.cue_board.specs.Board.{said_of};
 
-use crate::columns::fitted;
 use crate::line::BoardLine;
 use crate::names::Names;
+use cue_columns::fitted;
 use cue_exchange::{Outcome, Reason};
 use cue_show::DeviceNo;
 use cue_show_file::cue_text;
@@ -206,15 +206,15 @@ pub(crate) fn push_last(
     }
 }
 
-/// How many lines that takes.
-pub(crate) fn last_takes(last: &Option<Told>) -> usize {
+/// What that leaves of so many lines.
+pub(crate) fn room_beside_last(room: usize, last: &Option<Told>) -> usize
+    ensures { result ≡ room - ends.last_takes last.now }
+{
+    let left = room.saturating_sub(1);
     match last {
-        Some(told) => told
-            .failed
-            .as_slice()
-            .len()
-            .saturating_add(told.excused.as_slice().len())
-            .saturating_add(1),
-        None => 1,
+        Some(told) => left
+            .saturating_sub(told.failed.as_slice().len())
+            .saturating_sub(told.excused.as_slice().len()),
+        None => left,
     }
 }

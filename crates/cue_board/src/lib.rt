@@ -3,12 +3,13 @@
 //!
 //! The board is a list of fronts that a view gives, and each line begins with its own (`specs/Board.antt`): so its
 //! contract speaks of the front of each line, and names of any kind change nothing of it. Words are tables over the
-//! parts of a view. `IsFit` says what a terminal may get (`specs/Columns.antt`).
+//! parts of a view. `IsFit` says what a terminal may get (`specs/Columns.antt` of `cue_columns`).
 //!
 //! Why it is so:
 //! - If a board has few lines the stack gives way: which cue is next, each live attempt with its devices and the last
 //!   attempt are what an operator waits for. With a third of the cues before the place it stays down to one cue. If not
-//!   even that one has room, the devices of an attempt that have answered the same share a line.
+//!   even that one has room, the devices of an attempt that have answered the same share a line. A board that shows a
+//!   cue has room for all of its lines (`HasRoom`).
 //! - There is a line for the loudest alarm alone. A failure has one while its attempt is live, with its cue and its
 //!   devices; after that the line of the last cue says it. On a terminal nobody can say that a failure was seen.
 //! - While the controller or the relay has stopped, a line says what each cue that was given may move as soon as it
@@ -29,7 +30,6 @@
 mod alarms;
 mod board;
 mod brief;
-mod columns;
 mod ends;
 mod faults;
 mod line;
@@ -46,7 +46,6 @@ mod together;
 
 pub use alarms::alarm_words;
 pub use board::board_lines;
-pub use columns::{COLUMNS, fitted};
 pub use log::log_lines;
 pub use names::Names;
 pub use network::contact_words;

@@ -1,9 +1,9 @@
 //! A line of the board.
 ghost use Rattle.std.specs.Prelude.{◌≡◌, ◌++◌, IfOk, OnOk, map, replicate, string_bytes};
 ghost use Rattle.cue_board.specs.Board.{said_of, text_of};
-ghost use Rattle.cue_board.specs.Columns.{AreFit, IsFit};
+ghost use Rattle.cue_columns.specs.Columns.{AreFit, IsFit};
 
-use crate::columns::{COLUMNS, fitted};
+use cue_columns::{COLUMNS, fitted};
 use std::alloc::{AllocError, Global};
 
 /// A line of the board: what the view says, and what follows after it.
@@ -64,7 +64,7 @@ pub(crate) fn push_spaces(text: &mut String, count: usize) -> Result<(), AllocEr
 }
 
 /// The lines as they are shown.
-#[tactic(auto, using(crate::proofs::ColumnLemmas::are_fit_push))]
+#[tactic(auto, using(cue_columns::proofs::ColumnLemmas::are_fit_push))]
 pub(crate) fn texts(alloc: Global, lines: &[BoardLine]) -> Result<Vec<String>, AllocError>
     ensures value { IfOk result (λ texts. map string_bytes texts.items ≡ map text_of lines.now) }
     ensures fit { IfOk result (λ texts. AreFit texts.items) }

@@ -1,8 +1,9 @@
 //! The last lines of a log, as the board shows them.
-ghost use Rattle.std.specs.Prelude.{IfOk, OnOk};
-ghost use Rattle.cue_board.specs.Columns.{AreFit};
+ghost use Rattle.std.specs.Prelude.{◌≡◌, ◌≤◌, ◌+◌, ◌-◌, IfOk, OnOk, drop, length, take};
+ghost use Rattle.std.specs.Str.{trim_start};
+ghost use Rattle.cue_columns.specs.Columns.{AreFit};
 
-use crate::columns::{COLUMNS, fitted};
+use cue_columns::{COLUMNS, fitted};
 use std::alloc::{AllocError, Global};
 
 /// What stands before a line of the log, and before what follows of it on the next line of the board.
@@ -17,7 +18,10 @@ const ROWS: usize = 3;
 const DATE: usize = 11;
 
 // A line of the log without its date.
-fn without_date(line: &str) -> &str {
+fn without_date(line: &str) -> &str
+    ensures rest { result.now ≡ drop (length line.now - length result.now) line.now }
+    ensures date { length line.now ≤ length result.now + DATE }
+{
     match line.split_at_checked(DATE) {
         Some((date, rest)) if date.ends_with('T') => rest,
         _ => line,
@@ -25,7 +29,11 @@ fn without_date(line: &str) -> &str {
 }
 
 // As many words of a text as fit into so many bytes, and the rest of it. A word that is longer than that is cut.
-fn cut(text: &str, room: usize) -> (&str, &str) {
+// Nothing but the spaces between the two is left out.
+fn cut(text: &str, room: usize) -> (&str, &str)
+    ensures first { result.0.now ≡ take (length result.0.now) text.now }
+    ensures rest { result.1.now ≡ trim_start (drop (length result.0.now) text.now) }
+{
     if text.len() <= room {
         return (text, "");
     }
@@ -46,7 +54,7 @@ fn cut(text: &str, room: usize) -> (&str, &str) {
 }
 
 // Puts a line of the log after the others, on as many lines of the board as it takes.
-#[tactic(auto, using(crate::proofs::ColumnLemmas::are_fit_push))]
+#[tactic(auto, using(cue_columns::proofs::ColumnLemmas::are_fit_push))]
 fn push_wrapped(alloc: Global, lines: &mut Vec<String>, text: &str) -> Result<(), AllocError>
     requires { AreFit lines.old.items }
     ensures { OnOk result (AreFit lines.new.items) }

@@ -1,10 +1,11 @@
 //! When each device of a relay was heard.
-ghost use Rattle.std.specs.Prelude.{◌≡◌, IfOk, OnOk, string_bytes};
-ghost use Rattle.cue_board.specs.Columns.{AreFit};
+ghost use Rattle.std.specs.Prelude.{◌≡◌, ◌≤◌, ◌↔◌, ◌+◌, ◌-◌, ◌++◌, IfOk, IsTrue, OnOk, length, replicate, string_bytes};
+ghost use Rattle.cue_columns.specs.Columns.{AreFit};
 ghost use Rattle.cue_board.specs.Network as network;
 
-use crate::columns::{COLUMNS, fitted};
 use crate::line::push_spaces;
+use cue_columns::{COLUMNS, fitted};
+use cue_relay::Motion;
 use cue_relay::status::Ordered;
 use cue_view::view::{Contacted, LastHeard};
 use std::alloc::{AllocError, Global};
@@ -23,7 +24,7 @@ fn when(alloc: Global, heard: LastHeard) -> Result<String, AllocError>
     ensures { IfOk result (λ text. string_bytes text ≡ network.when heard) }
 {
     match heard {
-        LastHeard::Never => String::from_str(alloc, "never heard"),
+        LastHeard::Never => String::from_str(alloc, "not heard since the relay started"),
         LastHeard::Ago(millis) => {
             let whole = millis / 1_000;
             format!(in alloc; "heard {whole} s ago")
@@ -47,36 +48,66 @@ fn unanswered(contact: &Contacted) -> &'static str
     }
 }
 
-/// When a device of a relay was heard, and which order it was sent and has not answered, or that it is silent.
+// Whether it may still move, by a GO that was not its last order.
+fn is_left_moving(motion: Motion, ordered: Option<Ordered>) -> bool
+    ensures { result ≡ network.is_left_moving motion ordered }
+{
+    match motion {
+        Motion::Moving(_) => !matches!(ordered, Some(Ordered::Go)),
+        Motion::Unknown | Motion::Over(_) => false,
+    }
+}
+
+// That it may; nothing if not.
+fn may_move(contact: &Contacted) -> &'static str
+    ensures { result.now ≡ network.may_move contact.now }
+{
+    if is_left_moving(contact.motion, contact.ordered) {
+        "may still move, "
+    } else {
+        ""
+    }
+}
+
+/// When a device of a relay was heard, which order it was sent and has not answered, or that it is silent; and whether
+/// it may still move by a GO that it was sent before.
 pub fn contact_words(alloc: Global, contact: &Contacted) -> Result<String, AllocError>
     ensures { IfOk result (λ text. string_bytes text ≡ network.contact_words contact.now) }
 {
-    let (order, when) = (unanswered(contact), when(alloc, contact.heard)?);
+    let (moving, order) = (may_move(contact), unanswered(contact));
+    let when = when(alloc, contact.heard)?;
     let when = when.as_str();
-    format!(in alloc; "{order}{when}")
+    format!(in alloc; "{moving}{order}{when}")
 }
 
 // A device with these words.
-fn device_words(alloc: Global, contact: &Contacted) -> Result<String, AllocError> {
+fn device_words(alloc: Global, contact: &Contacted) -> Result<String, AllocError>
+    ensures { IfOk result (λ text. string_bytes text ≡ network.device_words contact.now) }
+{
     let words = contact_words(alloc, contact)?;
     format!(in alloc; "{}: {}", contact.device.number(), words.as_str())
 }
 
 // Whether the words still fit into the line.
-fn has_room(line: &str, words: &str) -> bool {
+fn has_room(line: &str, words: &str) -> bool
+    ensures { IsTrue result ↔ (length line.now + length words.now ≤ COLUMNS) }
+{
     let taken = line.len().saturating_add(words.len());
     taken <= COLUMNS
 }
 
-// The spaces after a line, before the next device.
-fn push_gap(line: &mut String, begun: usize) -> Result<(), AllocError> {
+// Puts the spaces before the next device after a line, on which the last one begins there.
+fn push_gap(line: &mut String, begun: usize) -> Result<(), AllocError>
+    ensures { OnOk result (string_bytes line.new
+        ≡ string_bytes line.old ++ replicate (network.gap (length (string_bytes line.old) - begun)) 32) }
+{
     let taken = line.len().saturating_sub(begun);
     let gap = DEVICE.saturating_sub(taken).max(APART);
     push_spaces(line, gap)
 }
 
 // Puts a line after the others, without the spaces at its end.
-#[tactic(auto, using(crate::proofs::ColumnLemmas::are_fit_push))]
+#[tactic(auto, using(cue_columns::proofs::ColumnLemmas::are_fit_push))]
 fn push_line(alloc: Global, lines: &mut Vec<String>, line: &str) -> Result<(), AllocError>
     requires { AreFit lines.old.items }
     ensures { OnOk result (AreFit lines.new.items) }

@@ -1,6 +1,6 @@
 //! What may move by itself once what is missing is back: a cue that was given stays so while the controller or the
 //! relay has stopped, and its devices get GO as soon as that has started again. Some may have had it before.
-ghost use Rattle.std.specs.Prelude.{◌≡◌, ◌++◌, IfOk, OnOk, map, string_bytes};
+ghost use Rattle.std.specs.Prelude.{◌≡◌, ◌++◌, IfOk, OnOk, count_by, map, string_bytes};
 ghost use Rattle.std.specs.List.{flat_map};
 ghost use Rattle.cue_exchange.specs.Answers as answers;
 ghost use Rattle.cue_board.specs.Board as board;
@@ -104,12 +104,19 @@ pub(crate) fn push_owed(
     Ok(())
 }
 
-/// How many lines that may take: one for each cue that was given.
-pub(crate) fn owed_at_most(alarm: &Alarm, live: &[LiveAttempt]) -> usize {
+// How many cues were given, and wait for a device.
+fn count_owed(live: &[LiveAttempt]) -> usize
+    ensures { result ≡ count_by board.is_owed live.now }
+{
+    live.iter().filter(|attempt| is_owed(attempt)).count()
+}
+
+/// How many lines that takes: one for each cue that was given and waits for a device.
+pub(crate) fn owed_takes(alarm: &Alarm, live: &[LiveAttempt]) -> usize
+    ensures { result ≡ board.owed_takes alarm.now live.now }
+{
     if holds_back(alarm) {
-        live.iter()
-            .filter(|attempt| attempt.stage.is_decided())
-            .count()
+        count_owed(live)
     } else {
         0
     }

@@ -2,6 +2,7 @@
 ghost use Rattle.std.specs.Prelude.{◌≡◌, ◌++◌, IfOk, OnOk, map, string_bytes};
 ghost use Rattle.cue_board.specs.Board as board;
 ghost use Rattle.cue_board.specs.Board.{said_of};
+ghost use Rattle.cue_board.specs.Names as called;
 
 use crate::line::{BoardLine, push_spaces};
 use crate::names::Names;
@@ -14,9 +15,9 @@ use std::alloc::{AllocError, Global};
 /// How many cues are shown at most.
 pub(crate) const SHOWN: usize = 9;
 
-/// How many lines a board has beside cues, live attempts, the alarm and the network: the next cue, its note, the
-/// heading of the stack, the last attempt, and the age. The line that nothing is stood by is one more.
-const ALWAYS: usize = 5;
+/// How many lines a board has beside cues, live attempts, the alarm, the last attempt and the network: the next cue,
+/// its note, the heading of the stack, and the age.
+const ALWAYS: usize = 4;
 
 /// The column at which the name of a cue of the stack stands.
 const NAME_AT: usize = 25;
@@ -69,11 +70,21 @@ fn room_after(room: usize, live: &[LiveAttempt]) -> usize
     left
 }
 
+// The same, with the line that nothing is stood by if there is none.
+fn room_beside_live(room: usize, live: &[LiveAttempt]) -> usize
+    ensures { result ≡ board.room_beside_live room live.now }
+{
+    match live {
+        [] => room.saturating_sub(1),
+        _ => room_after(room, live),
+    }
+}
+
 /// How many cues have room beside the live attempts, if a board has so many lines.
 pub(crate) fn cues_within(room: usize, live: &[LiveAttempt]) -> usize
     ensures { result ≡ board.cues_within room live.now }
 {
-    let left = room_after(room.saturating_sub(ALWAYS), live);
+    let left = room_beside_live(room.saturating_sub(ALWAYS), live);
     if left >= SHOWN { SHOWN } else { left }
 }
 
@@ -95,7 +106,10 @@ fn next_said(alloc: Global, next: Next, groups: &[Group]) -> Result<String, Allo
 }
 
 // What the file calls the cue that is next, and what it notes there.
-fn next_texts<'a>(next: Next, names: &Names<'a>) -> (&'a str, &'a str) {
+fn next_texts<'a>(next: Next, names: &Names<'a>) -> (&'a str, &'a str)
+    ensures name { result.0.now ≡ called.next_name names.now next }
+    ensures note { result.1.now ≡ called.next_note names.now next }
+{
     match next {
         Next::Cue(cue) => (names.cue_name(cue), names.cue_note(cue)),
         Next::Empty | Next::End | Next::Unknown => ("", ""),

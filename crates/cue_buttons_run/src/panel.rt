@@ -11,6 +11,7 @@ use cue_board::unsent_words;
 use cue_desk_run::{Beat, Desk};
 use cue_midi::{Heard, Parser, Show};
 use cue_press_words::{button_words, intent_words, spoken_words, trouble_words, why_words};
+use cue_presses::taps::TAP_MS;
 use cue_presses::{
     Address, Hand, Intent, Keys, Passed, Press, Spoken, Struck, Tally, Why, intent_of,
     is_first_of_keys, is_of_keys, spoken_to,
@@ -356,11 +357,25 @@ impl<'a, R: Files<File = File> + Net + Clock + AllocGlobal> Panel<'a, R> {
         self.before = mem::replace(&mut self.pending, Some(newest));
     }
 
+    // Whether the newest press, of which the end is not told yet, is the same one, and is less than a second old: it is
+    // the second tap of one finger.
+    fn is_tapped(&self, what: &str) -> bool {
+        match &self.pending {
+            Some(pending) => {
+                pending.what.as_str() == what && self.hand.at.saturating_sub(pending.since) < TAP_MS
+            }
+            None => false,
+        }
+    }
+
     // Says why a press was not sent.
     fn say_unsent(&mut self, what: &str, unsent: Unsent) -> Result<(), AllocError>
         ensures desk { self.new.desk ≡ self.old.desk }
         ensures setting { self.new.setting ≡ self.old.setting }
     {
+        if self.is_tapped(what) {
+            return self.line(format_args!("{what}: a second tap within a second: nothing is sent"));
+        }
         match trouble_words(self.rt.alloc(), self.desk.view(), self.setting.port)? {
             Some(words) => {
                 let words = words.as_str();

@@ -1,5 +1,5 @@
-//! Texts in columns of a terminal or a printer: one layout, for the cue sheet and for the report of an evening. Nothing
-//! here opens a file.
+//! Texts in columns of a terminal or a printer: one layout, for the board, the cue sheet and the report of an evening.
+//! Nothing here opens a file.
 //!
 //! A row has cells side by side. A text that is wider than its cell goes on in the next line of this cell: nothing is
 //! cut off. No line has more than 80 columns, or a sign that a terminal obeys: `specs/Columns.antt`. A `Part` is what

@@ -140,11 +140,8 @@ fn ask_in(alloc: Global, order: DeskCommand, found: &ArgMatches<'_>) -> Result<L
 fn of_cue_in(alloc: Global, verb: CueVerb, found: &ArgMatches<'_>) -> Result<Line, LineFault>
     ensures { IfOk result (IsAskedBy (cue_verb_text verb) found.now) }
 {
-    ask_in(
-        alloc,
-        DeskCommand::OfCue(verb, cue_in(alloc, found)?),
-        found,
-    )
+    let cue = cue_in(alloc, found)?;
+    ask_in(alloc, DeskCommand::OfCue(verb, cue), found)
 }
 
 // The command `remove device`.

@@ -151,10 +151,10 @@ pressed_for_it from house x y d q keeps lives only copies moved =
     (each_for_it is keeps.kept keeps.prefix q g) house lives.desks only copies g.asked)
 
 pub from_a_finger_to_a_machine : FromAFingerToAMachine
-from_a_finger_to_a_machine from house x y d q keeps lives only copies answers moved = record {
+from_a_finger_to_a_machine from house x y d q keeps lives only copies moved = record {
   decided = keeps.decided d q moved;
   pressed = pressed_for_it from house x y d q keeps lives only copies moved;
-  consented = only_with_consent from (stage_of house) x y d q lives.stage answers keeps moved;
+  consented = λ answers. only_with_consent from (stage_of house) x y d q lives.stage answers keeps moved;
   not_by_halves = λ e ended. by e ended;
 }
   where

@@ -26,9 +26,9 @@ pub fn a_motion_was_pressed()
     ensures { AMotionWasPressed }
 {}
 
-/// And if desks read the store as it was, and nobody but a device says of itself that it stands by: GO was pressed for
-/// this very attempt, or for one of its cue that ended before it started; each required device had prepared and said
-/// so; the decision is kept; and no device hears a CANCEL of it.
+/// And if desks read the store as it was: GO was pressed for this very attempt, or for one of its cue that ended before
+/// it started; the decision is kept; no device hears a CANCEL of it; and each required device had prepared and said so,
+/// if nobody but a device says of itself that it stands by.
 pub fn from_a_finger_to_a_machine()
     ensures { FromAFingerToAMachine }
 {}

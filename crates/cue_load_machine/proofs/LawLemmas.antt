@@ -19,7 +19,8 @@ use Rattle.cue_load_machine.specs.Stages as stages
 use Rattle.cue_load_machine.specs.Steps.{State, begins, bytes_of, copies, copy_given, first_stage, gives_at, state_of}
 use Rattle.cue_load_machine.specs.Steps.{state_then, then_at, with_stage}
 use Rattle.cue_load_machine.proofs.TurnLemmas.{StateTurn, one_posted, state_losses, state_turn}
-use Rattle.cue_load_machine.proofs.LifeLemmas.{Goes, at_state, begins_going, goes_next, has_sent}
+use Rattle.cue_load_machine.proofs.GoingLemmas.{Goes, at_state, begins_going, has_sent}
+use Rattle.cue_load_machine.proofs.LifeLemmas.{goes_next}
 
 -- ---- all turns
 

@@ -1,5 +1,6 @@
 pub mod TurnLemmas
 mod ReplyLemmas
+pub mod GoingLemmas
 pub mod LifeLemmas
 pub mod LawLemmas
 mod StepLemmas
@@ -8,3 +9,5 @@ mod TimeLemmas
 mod PlanLemmas
 mod AddLemmas
 mod TwiceLemmas
+mod AnswerLemmas
+mod DoneLemmas

@@ -13,24 +13,24 @@ use Rattle.cue_load_machine.specs.declared.stage.Stage.TheVariants as stage
 use Rattle.cue_load_machine.specs.declared.stage.Try.{Try}
 use Rattle.cue_load_machine.specs.Asks.{sendings}
 use Rattle.cue_load_machine.specs.Laws.{AllMayBeSent, IsAgain, IsFirst, SentAsOftenAsMayBe}
-use Rattle.cue_load_machine.specs.Lives.{AreSendings, How, Sending, done, late, stage_after, stops, waits}
+use Rattle.cue_load_machine.specs.Lives.{AreSendings, How, Sending, done, late, nobody, stage_after, stops, waits}
 use Rattle.cue_load_machine.specs.Stages.{again, next_place, next_socket, spent}
 use Rattle.cue_load_machine.specs.Steps.{State, begins_with, given_up}
 
 -- a message is to be sent
-abbrev is_sends : Stage → Bool
+abbrev pub is_sends : Stage → Bool
 is_sends stage.Copies = false
 is_sends (stage.Sends of) = true
 is_sends (stage.Waits w) = false
 is_sends (stage.Over e) = false
 
-abbrev try_of : Try → Stage → Try
+abbrev pub try_of : Try → Stage → Try
 try_of other stage.Copies = other
 try_of other (stage.Sends of) = of
 try_of other (stage.Waits w) = other
 try_of other (stage.Over e) = other
 
-no_sends : (of : Try) (at : Stage) → stage.Sends of ≡ at → is_sends at ≡ false → ⊥
+pub no_sends : (of : Try) (at : Stage) → stage.Sends of ≡ at → is_sends at ≡ false → ⊥
 no_sends of at e f = true≢false (ap is_sends e ∙ f)
 
 from_begins : (s : State) (x : Sending) (o : Option Ask) (place socket : ℕ) → slice_get s.asks x.of.place ≡ Some x.ask
@@ -66,6 +66,7 @@ next_may s x y waits there e = absurd (no_sends x.of (stage_after s y waits) e r
 next_may s x y done there e = inl (from_begins s x (slice_get s.asks _) _ y.of.socket there refl e)
 next_may s x y (stops code) there e = absurd (no_sends x.of (stage_after s y (stops code)) e refl)
 next_may s x y late there e = again_when s x y there (nat_lt 0 (spent y.of).left) refl e
+next_may s x y nobody there e = absurd (no_sends x.of (stage_after s y nobody) e refl)
 
 pub sent-as-often-as-may-be : SentAsOftenAsMayBe
 sent-as-often-as-may-be s [] at h = tt

@@ -46,7 +46,7 @@ pub record StepAt (steps : List Step) (place : ℕ) (a : Ask) : Type 0 where
   pub stands : length before ≡ place
   pub asks : IsAskOfStep step a
 
-step_at : (steps : List Step) (asks : List Ask) (place : ℕ) (a : Ask) → AreAsksOf steps asks
+pub step_at : (steps : List Step) (asks : List Ask) (place : ℕ) (a : Ask) → AreAsksOf steps asks
     → slice_get asks place ≡ Some a → StepAt steps place a
 step_at [] [] place a h e = absurd (none-some a e)
 step_at [] (b ∷ asks) place a h e = absurd h

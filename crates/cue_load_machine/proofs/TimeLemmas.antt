@@ -21,9 +21,9 @@ use Rattle.cue_loading.specs.Steps.{goes_on}
 use Rattle.cue_load_machine.specs.Asks.{patience}
 use Rattle.cue_load_machine.specs.Laws.{HadTurns, OverInTime, WaitsInTime}
 use Rattle.cue_load_machine.specs.Lives.{AreSendings, HasCopied, HasSent, How, IsSending, Sending, Stands, done}
-use Rattle.cue_load_machine.specs.Lives.{late, load_machine, post, stage_after}
-use Rattle.cue_load_machine.specs.Lives.{stops, told, turns_of, waits, waits_after}
-use Rattle.cue_load_machine.specs.Stages.{again, highest, late_at, next_place, next_socket, sent, spent}
+use Rattle.cue_load_machine.specs.Lives.{awaited_since, late, load_machine, nobody, post, stage_after}
+use Rattle.cue_load_machine.specs.Lives.{stops, turns_of, waits, waits_in}
+use Rattle.cue_load_machine.specs.Stages.{again, highest, late_at, next_place, next_socket, spent}
 use Rattle.cue_load_machine.specs.Stages as stages
 use Rattle.cue_load_machine.specs.Steps.{State, begins, begins_with, bytes_of, first_stage, given_up, is_over, late_of}
 use Rattle.cue_load_machine.specs.Steps.{message_given, state_of, state_then}
@@ -93,11 +93,11 @@ waiting_as : (m : LoadMachine) (ts : List Turn) (m_then : LoadMachine) (w : Wait
     → (state_of m_then).asks ≡ (state_of m).asks → (first : List Turn) (x : Sending) (xs : List Sending)
     → ts ≡ first ++ (turns_of xs ++ x.left ∷ x.after) → slice_get (state_of m).asks x.of.place ≡ Some x.ask
     → (lost : Bool) → x.left.posted ≡ post (message_given m.port x.ask x.of.socket) lost ∷ []
-    → w ≡ waits_after (sent x.ask.form x.of x.left.heard.now) (told (state_of m) x) → WaitsInTime m ts m_then
+    → w ≡ waits_in (state_of m) x → WaitsInTime m ts m_then
 waiting_as m ts m_then w at asks first x xs all there lost left is =
     let s : State = state_of m in
     let of : w.of ≡ spent x.of = of_waits s x w is in
-    let since : w.since ≡ x.left.heard.now = since_waits s x w is in
+    let since : w.since ≡ awaited_since s x = since_waits s x w is in
     let found : slice_get m_then.asks.items w.of.place ≡ Some x.ask =
     ap (λ (v : Try). slice_get m_then.asks.items v.place) of
     ∙ (ap (λ (xs : List Ask). slice_get xs x.of.place) asks ∙ there) in
@@ -107,10 +107,10 @@ waiting_as m ts m_then w at asks first x xs all there lost left is =
       all = all ∙ sym (append_assoc first (turns_of xs) (x.left ∷ x.after));
       lost = lost;
       left = left;
-      until = late_at x.ask.form x.left.heard.now;
+      until = late_at x.ask.form (awaited_since s x);
       wakes = ap (λ (v : Stage). wakes_at m_then v) at
           ∙ (ap (λ (o : Option Ask). Some (late_of o w)) found ∙ ap (λ (n : ℕ). Some (late_at x.ask.form n)) since);
-      soon = min-le_left (x.left.heard.now + patience x.ask.form) highest;
+      soon = min-le_left (awaited_since s x + patience x.ask.form) highest;
     }
 
 waiting_how : (m : LoadMachine) (ts : List Turn) (m_then : LoadMachine) (w : Waits) → m_then.stage ≡ stage.Waits w
@@ -126,6 +126,8 @@ waiting_how m ts m_then w at asks first x xs all (stops code) h e =
 waiting_how m ts m_then w at asks first x xs all late h e =
     absurd (no_waits w (stage_after (state_of m) x late) e
     (silent_not (state_of m) x.ask.form (spent x.of) (nat_lt 0 (spent x.of).left)))
+waiting_how m ts m_then w at asks first x xs all nobody h e =
+    absurd (no_waits w (stage_after (state_of m) x nobody) e refl)
 
 waiting_by : (m : LoadMachine) (ts : List Turn) (m_then : LoadMachine) (w : Waits) → m_then.stage ≡ stage.Waits w
     → (state_of m_then).asks ≡ (state_of m).asks → (first : List Turn) (xs : List Sending)

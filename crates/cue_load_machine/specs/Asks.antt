@@ -1,10 +1,12 @@
 -- What is known of one message of a load.
-use Rattle.std.specs.Prelude.{ℕ, ℤ, pos, Bool, true, false, if◌then◌else◌, Option, Some, None}
+use Rattle.std.specs.Prelude.{ℕ, ℤ, pos, ◌+◌, ◌-◌, ◌^◌, min, Bool, true, false, if◌then◌else◌, List, [], ◌∷◌}
+use Rattle.std.specs.Prelude.{Option, Some, None}
 use Rattle.std.specs.Ordering.{int_eq}
 use Rattle.cue_desk.specs.declared.answered.Answered.TheVariants as answered
 use Rattle.cue_desk.specs.declared.replying.Replied.{Replied}
 use Rattle.cue_desk.specs.declared.replying.Replied.TheVariants as replied
 use Rattle.cue_desk.specs.Answered.{refusal_of_removal}
+use Rattle.cue_load_machine.specs.declared.asks.Ask.{Ask}
 use Rattle.cue_load_machine.specs.declared.asks.Form.{Form}
 use Rattle.cue_load_machine.specs.declared.asks.Form.TheVariants as form
 use Rattle.cue_load_machine.specs.declared.asks.Refusal.{Refusal}
@@ -25,7 +27,7 @@ abbrev pub replies : Form → ℕ
 replies form.Alone = 1
 replies (form.Together count) = count
 
--- for a quarter of a second, or a second, in milliseconds
+-- how long the next reply is waited for: a quarter of a second, or a second, in milliseconds
 abbrev pub patience : Form → ℕ
 patience form.Alone = 250
 patience (form.Together count) = 1000
@@ -34,6 +36,11 @@ patience (form.Together count) = 1000
 abbrev pub covers : Form → ℕ
 covers form.Alone = 0
 covers (form.Together count) = count
+
+-- how many of these ask one thing
+abbrev pub alone_in : List Ask → ℕ
+alone_in [] = 0
+alone_in (a ∷ asks) = if is_alone a.form then min (alone_in asks + 1) (2 ^ 64 - 1) else alone_in asks
 
 -- the code, if something was refused
 abbrev pub code_of : Replied → Option ℤ

@@ -6,7 +6,7 @@ use Rattle.cue_loading.specs.Steps.{goes_on}
 use Rattle.cue_load_machine.specs.declared.machine.LoadMachine.{LoadMachine}
 use Rattle.cue_load_machine.specs.declared.stage.Stage.{Stage}
 use Rattle.cue_load_machine.specs.Asks.{patience, sendings}
-use Rattle.cue_load_machine.specs.Lives.{AreSendings, IsNew, Sending, Stands, load_machine, post}
+use Rattle.cue_load_machine.specs.Lives.{AreSendings, IsNew, Sending, Stands, awaited_since, load_machine, post}
 use Rattle.cue_load_machine.specs.Steps.{State, bytes_of, copies, is_over, message_given, state_of, wakes}
 
 -- the machine had these turns, the first of its life and those after it
@@ -55,8 +55,8 @@ SentAsOftenAsMayBe = (s : State) (xs : List Sending) (at : Stage) → AreSending
 
 -- ---- time
 
--- the last message left in one of these turns, and it wakes when the time for its replies has passed: a second later at
--- most
+-- the last message left in one of these turns, and it wakes when the time for its next reply has passed: a second after
+-- it left, or after the last reply to it, at most
 pub record WaitsInTime (m : LoadMachine) (ts : List Turn) (m_then : LoadMachine) : Type 0 where
   pub before : List Turn
   pub x : Sending
@@ -65,7 +65,7 @@ pub record WaitsInTime (m : LoadMachine) (ts : List Turn) (m_then : LoadMachine)
   pub left : x.left.posted ≡ post (message_given m.port x.ask x.of.socket) lost ∷ []
   pub until : ℕ
   pub wakes : wakes m_then ≡ Some until
-  pub soon : until ≤ x.left.heard.now + patience x.ask.form
+  pub soon : until ≤ awaited_since (state_of m) x + patience x.ask.form
 
 -- it is over; or something is to be sent, and it wakes at once; or it waits, and wakes in time
 abbrev pub OverInTime : Type 0

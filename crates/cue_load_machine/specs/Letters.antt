@@ -17,6 +17,8 @@ use Rattle.cue_loading.specs.declared.step.Step.{Step}
 use Rattle.cue_loading.specs.declared.step.Step.TheVariants as step
 use Rattle.cue_show_file.specs.declared.file.CueEntry.{CueEntry}
 use Rattle.cue_show_file.specs.declared.file.DeviceEntry.{DeviceEntry}
+use Rattle.cue_show_file.specs.declared.mistake.Subject.{Subject}
+use Rattle.cue_show_file.specs.declared.mistake.Subject.TheVariants as subject
 use Rattle.cue_load_machine.specs.declared.asks.Ask.{Ask}
 use Rattle.cue_load_machine.specs.declared.asks.Form.TheVariants as form
 use Rattle.cue_load_machine.specs.declared.asks.Refusal.{Refusal}
@@ -69,6 +71,14 @@ removes (step.RemoveDevice d) = true
 removes (step.AddCue c parts) = false
 removes (step.RemoveCue c) = true
 removes (step.MovePlace c) = false
+
+-- what it is about
+abbrev pub subject_of : Step → Subject
+subject_of (step.AddDevice d port) = subject.Device d
+subject_of (step.RemoveDevice d) = subject.Device d
+subject_of (step.AddCue c parts) = subject.Cue c
+subject_of (step.RemoveCue c) = subject.Cue c
+subject_of (step.MovePlace c) = subject.Cue c
 
 -- if it is refused, the load stops; but what is not there is removed
 abbrev pub refusal_of_step : Step → Refusal
@@ -126,6 +136,13 @@ AsksForDevice e ask = AsksForOne method.AddDevice (device_message e) ask
 
 abbrev pub AsksForCue : CueEntry → Ask → Type 0
 AsksForCue e ask = AsksForOne method.AddMixedCue (cue_message e) ask
+
+-- what an entry is called
+abbrev pub device_called : DeviceEntry → Subject
+device_called e = subject.Device e.number
+
+abbrev pub cue_called : CueEntry → Subject
+cue_called e = subject.Cue e.number
 
 -- ---- one question
 

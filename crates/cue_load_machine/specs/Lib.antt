@@ -6,3 +6,8 @@ pub mod Laws
 pub mod Letters
 pub mod Plans
 pub mod Addings
+pub mod Agreeing
+pub mod Answering
+pub mod Counts
+pub mod Differing
+pub mod Order

@@ -19,7 +19,7 @@ use Rattle.cue_load_machine.specs.declared.stage.Waits.{Waits}
 use Rattle.cue_load_machine.specs.Asks.{replies, stops_by}
 use Rattle.cue_load_machine.specs.Stages.{first_slot, late_at, next_slot, one_less, sent, spent}
 use Rattle.cue_load_machine.specs.Steps.{State, Steps, after_loss, answered, begins, copies, is_over, message_given}
-use Rattle.cue_load_machine.specs.Steps.{first_stage, reply_to, silent, wakes}
+use Rattle.cue_load_machine.specs.Steps.{first_stage, is_refused, reply_to, silent, wakes}
 
 -- a load as a machine
 abbrev pub load_machine : Ghosts LoadMachine
@@ -62,19 +62,36 @@ pub record EndsWith (a : Ask) (rs : List Replied) (last : Replied) : Type 0 wher
   pub all : rs ≡ before ++ last ∷ []
   pub some : AreSome a before
 
--- when the last of these turns was heard, the time for the replies had passed
-pub record IsLate (a : Ask) (since : ℕ) (ts : List Turn) : Type 0 where
+-- from when on the next reply to it is waited for: from the moment at which the last one of these turns came, or, if
+-- none came, from this one
+abbrev pub since_by : ℕ → ℕ → Option Replied → ℕ
+since_by since now None = since
+since_by since now (Some r) = now
+
+abbrev pub since_in : ℕ → Ask → ℕ → List Turn → ℕ → ℕ
+since_in port a socket [] since = since
+since_in port a socket (t ∷ ts) since =
+    since_in port a socket ts
+    (since_by since t.heard.now (reply_to port a socket t.heard.input t.heard.bytes))
+
+-- when it was sent, or when the last reply to it came
+abbrev pub awaited_since : State → Sending → ℕ
+awaited_since s x = since_in s.port x.ask x.of.socket x.after x.left.heard.now
+
+-- when the last of its turns was heard, the time for the next reply had passed
+pub record IsLate (s : State) (x : Sending) : Type 0 where
   pub before : List Turn
   pub last : Turn
-  pub all : ts ≡ before ++ last ∷ []
-  pub late : late_at a.form since ≤ last.heard.now
+  pub all : x.after ≡ before ++ last ∷ []
+  pub late : late_at x.ask.form (awaited_since s x) ≤ last.heard.now
 
--- how it ended: not yet; all its replies came; one of them stopped the load; its time passed before
+-- how it ended: not yet; all its replies came; one of them stopped the load; its time passed before; nobody listened
 pub data How : Type 0 where
   waits : How
   done : How
   stops : ℤ → How
   late : How
+  nobody : How
 
 abbrev pub IsHow : State → Sending → How → Type 0
 IsHow s x waits = AreSome x.ask (told s x)
@@ -83,7 +100,29 @@ IsHow s x done =
     × (replies x.ask.form ≤ length ended.before + 1)
 IsHow s x (stops code) =
     (last : Replied) × EndsWith x.ask (told s x) last × (stops_by x.ask.refusal last ≡ Some code)
-IsHow s x late = AreSome x.ask (told s x) × IsLate x.ask x.left.heard.now x.after
+IsHow s x late = AreSome x.ask (told s x) × IsLate s x
+IsHow s x nobody = AreSome x.ask (told s x)
+
+-- in none of these turns was it heard that nobody listens where a socket sends
+abbrev pub NoneRefused : ℕ → List Turn → Type 0
+NoneRefused socket [] = ⊤
+NoneRefused socket (t ∷ ts) = (is_refused socket t.heard.input ≡ false) × NoneRefused socket ts
+
+-- in the last of these turns it was, and in none before it
+pub record LastRefused (socket : ℕ) (ts : List Turn) : Type 0 where
+  pub before : List Turn
+  pub last : Turn
+  pub all : ts ≡ before ++ last ∷ []
+  pub none : NoneRefused socket before
+  pub refused : is_refused socket last.heard.input ≡ true
+
+-- that nobody listens is heard last, if it ended so, and else not at all
+abbrev pub Hears : How → ℕ → List Turn → Type 0
+Hears waits socket ts = NoneRefused socket ts
+Hears done socket ts = NoneRefused socket ts
+Hears (stops code) socket ts = NoneRefused socket ts
+Hears late socket ts = NoneRefused socket ts
+Hears nobody socket ts = LastRefused socket ts
 
 -- Its message left once, by its socket, and nothing left after it; and it ended so.
 pub record IsSending (s : State) (x : Sending) (how : How) : Type 0 where
@@ -92,21 +131,32 @@ pub record IsSending (s : State) (x : Sending) (how : How) : Type 0 where
   pub left : x.left.posted ≡ post (message_given s.port x.ask x.of.socket) lost ∷ []
   pub nothing : all_posted x.after ≡ []
   pub ends : IsHow s x how
+  pub hears : Hears how x.of.socket x.after
 
 -- ---- one after the other
 
--- a message that was sent, once these replies came to it
-abbrev pub waits_after : Waits → List Replied → Waits
-waits_after w [] = w
-waits_after w (r ∷ rs) = waits_after (one_less w) rs
+-- a message that was sent, once these turns were heard
+abbrev pub waits_by : Waits → ℕ → Option Replied → Waits
+waits_by w now None = w
+waits_by w now (Some r) = one_less w now
 
--- how the load stands after it: it waits; the next message is to be sent; it has stopped; or the same message is to be
--- sent again, if it may be
+abbrev pub waits_after : ℕ → Ask → ℕ → List Turn → Waits → Waits
+waits_after port a socket [] w = w
+waits_after port a socket (t ∷ ts) w =
+    waits_after port a socket ts
+    (waits_by w t.heard.now (reply_to port a socket t.heard.input t.heard.bytes))
+
+abbrev pub waits_in : State → Sending → Waits
+waits_in s x = waits_after s.port x.ask x.of.socket x.after (sent x.ask.form x.of x.left.heard.now)
+
+-- how the load stands after it: it waits; the next message is to be sent; it has stopped; the same message is to be
+-- sent again, if it may be; or it is over, since nobody listens
 abbrev pub stage_after : State → Sending → How → Stage
-stage_after s x waits = stage.Waits (waits_after (sent x.ask.form x.of x.left.heard.now) (told s x))
+stage_after s x waits = stage.Waits (waits_in s x)
 stage_after s x done = answered s.asks x.ask (spent x.of)
 stage_after s x (stops code) = stage.Over (end.Refused x.of.place code)
 stage_after s x late = silent s.asks x.ask.form (spent x.of)
+stage_after s x nobody = stage.Over (end.Nobody x.of.place)
 
 -- After these sendings, the newest first, the load stands so: each was to be the next, from the first message on.
 abbrev pub AreSendings : State → List Sending → Stage → Type 0

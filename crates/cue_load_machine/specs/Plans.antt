@@ -1,11 +1,13 @@
 -- What a load in the place of another show asks: the steps of its plan.
-use Rattle.std.specs.Prelude.{◌≡◌, ◌⊎◌, ℕ, ℤ, pos, Bool, true, false, ◌||◌, if◌then◌else◌, List, [], ◌∷◌, ◌++◌, length}
-use Rattle.std.specs.Prelude.{min, take}
+use Rattle.std.specs.Prelude.{◌≡◌, ◌<◌, ◌⊎◌, ℕ, ℤ, pos, Bool, true, false, ◌||◌, if◌then◌else◌, List, [], ◌∷◌, ◌++◌, length}
+use Rattle.std.specs.Prelude.{min, slice_get, take}
 use Rattle.std.specs.Prelude.{Option, Some, None, Vec, IsTrue, is_some, ⊤}
+use Rattle.std.specs.Option.{option_map}
 use Rattle.std.specs.Ordering.{int_eq}
 use Rattle.std.specs.declared.alloc.Global.{Global}
-use Rattle.cue_machine.specs.Living.{Turn, all_posted}
+use Rattle.cue_machine.specs.Living.{AreTurns, Turn, all_posted}
 use Rattle.cue_show.specs.Show.{ShowLists, is_show}
+use Rattle.cue_show_file.specs.declared.mistake.Subject.{Subject}
 use Rattle.cue_loading.specs.declared.manner.Manner.{Manner}
 use Rattle.cue_loading.specs.declared.manner.Manner.TheVariants as manner
 use Rattle.cue_loading.specs.declared.step.Step.{Step}
@@ -15,12 +17,14 @@ use Rattle.cue_load_machine.specs.declared.asks.Ask.{Ask}
 use Rattle.cue_load_machine.specs.declared.machine.LoadMachine.{LoadMachine}
 use Rattle.cue_load_machine.specs.declared.planned.Copied.{Copied}
 use Rattle.cue_load_machine.specs.declared.planned.Planned.{Planned}
+use Rattle.cue_load_machine.specs.declared.stage.LoadEnd.TheVariants as end
 use Rattle.cue_load_machine.specs.declared.stage.Stage.{Stage}
+use Rattle.cue_load_machine.specs.declared.stage.Stage.TheVariants as stage
 use Rattle.cue_load_machine.specs.Laws.{HadTurns, IsCopiedFirst}
-use Rattle.cue_load_machine.specs.Letters.{IsAskOfStep, removes}
-use Rattle.cue_load_machine.specs.Lives.{AreSendings, IsNew, Sending}
-use Rattle.cue_load_machine.specs.Stages.{asked_at}
-use Rattle.cue_load_machine.specs.Steps.{bytes_of, state_of}
+use Rattle.cue_load_machine.specs.Letters.{IsAskOfStep, removes, subject_of}
+use Rattle.cue_load_machine.specs.Lives.{AreSendings, IsNew, IsSending, Sending, done, load_machine}
+use Rattle.cue_load_machine.specs.Stages.{asked_at, place_of}
+use Rattle.cue_load_machine.specs.Steps.{State, bytes_of, state_of}
 
 -- nothing of the show is live, as the controller says
 abbrev pub rests : ℤ → Bool
@@ -41,6 +45,11 @@ removes_some (s ∷ ss) = removes s || removes_some ss
 abbrev pub is_open : Planned → Bool
 is_open p =
     let all : ℕ = length p.steps.items in removes_some (take (min (asked_at all p.machine.stage) all) p.steps.items)
+
+-- what the step is about whose turn it is, or at which it ended
+abbrev pub subject_at : Planned → Option Subject
+subject_at p =
+    option_map subject_of (slice_get p.steps.items (place_of (length p.steps.items) p.machine.stage))
 
 -- the copy, if it is wanted, or something is taken away
 abbrev pub copy_for : Bool → Vec ℕ Global → List Step → Option (Vec ℕ Global)
@@ -106,6 +115,26 @@ NothingTakenUncopied =
     (port : ℕ) (manner : Manner) (file stored : ShowLists) (copied : Copied) (p : Planned) (ts : List Turn)
     (m_then : LoadMachine) → IsPlanned port manner file stored copied p → HadTurns p.machine ts m_then
     → removes_some p.steps.items ≡ true → IsCopiedFirst copied.text.items (all_posted ts)
+
+-- ---- loaded
+
+-- the message of this place left in one of these sendings, and was replied to, and none of its replies stopped the load
+abbrev pub WasDone : State → List Sending → ℕ → Type 0
+WasDone s [] place = ⊥
+WasDone s (x ∷ xs) place = ((x.of.place ≡ place) × IsSending s x done) ⊎ WasDone s xs place
+
+-- a load of a plan says that it is done only once each of its steps was replied to, and none was refused
+abbrev pub EachIsDone : Type 0
+EachIsDone =
+    (port : ℕ) (manner : Manner) (file stored : ShowLists) (copied : Copied) (p : Planned) (xs : List Sending)
+    → IsPlanned port manner file stored copied p → AreSendings (state_of p.machine) xs (stage.Over end.Done)
+    → (place : ℕ) → place < length p.machine.asks.items → WasDone (state_of p.machine) xs place
+
+-- and once one was refused nothing leaves any more
+abbrev pub ARefusalStops : Type 0
+ARefusalStops =
+    (m m_then : LoadMachine) (place : ℕ) (code : ℤ) (ts : List Turn) → m.stage ≡ stage.Over (end.Refused place code)
+    → AreTurns load_machine m ts m_then → ts ≡ []
 
 -- ---- twice
 

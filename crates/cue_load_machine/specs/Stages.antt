@@ -1,5 +1,6 @@
 -- Sockets, places, stages and time.
 use Rattle.std.specs.Prelude.{ℕ, ◌+◌, ◌-◌, ◌^◌, min, Bool, true, false, nat_le, nat_lt, if◌then◌else◌}
+use Rattle.std.specs.Prelude.{Option, Some, None}
 use Rattle.cue_machine.specs.declared.post.Output.{Output}
 use Rattle.cue_machine.specs.declared.post.Output.TheVariants as output
 use Rattle.cue_loading.specs.declared.manner.Manner.{Manner}
@@ -35,7 +36,7 @@ first_slot (form.Together count) place = min (place + 1) highest
 abbrev pub next_slot : ℕ → ℕ
 next_slot slot = min (slot + 1) highest
 
--- when the time for the replies ends, to a message that was sent at a moment
+-- when the time for the next reply ends, to a message that was sent, or replied to last, at a moment
 abbrev pub late_at : Form → ℕ → ℕ
 late_at f since = min (since + patience f) highest
 
@@ -55,9 +56,9 @@ sent f of now = record { of = spent of; since = now; rest = replies f; slot = fi
 abbrev pub again : Try → Try
 again of = record { place = of.place; left = of.left; socket = next_socket of.socket }
 
--- one reply has come
-abbrev pub one_less : Waits → Waits
-one_less w = record { of = w.of; since = w.since; rest = w.rest - 1; slot = next_slot w.slot }
+-- one reply has come, at a moment
+abbrev pub one_less : Waits → ℕ → Waits
+one_less w now = record { of = w.of; since = now; rest = w.rest - 1; slot = next_slot w.slot }
 
 -- what was lost is the copy, or a message: without the copy only a load goes on that takes nothing away
 abbrev pub lost : Manner → Stage → Output → Stage
@@ -71,6 +72,7 @@ abbrev pub end_place : ℕ → LoadEnd → ℕ
 end_place all end.Done = all
 end_place all (end.Refused place code) = place
 end_place all (end.Silent place) = place
+end_place all (end.Nobody place) = place
 end_place all end.NotKept = 0
 
 abbrev pub place_of : ℕ → Stage → ℕ
@@ -84,6 +86,7 @@ abbrev pub end_asked : ℕ → LoadEnd → ℕ
 end_asked all end.Done = all
 end_asked all (end.Refused place code) = next_slot place
 end_asked all (end.Silent place) = next_slot place
+end_asked all (end.Nobody place) = next_slot place
 end_asked all end.NotKept = 0
 
 abbrev pub asked_at : ℕ → Stage → ℕ
@@ -97,3 +100,10 @@ is_over stage.Copies = false
 is_over (stage.Sends of) = false
 is_over (stage.Waits w) = false
 is_over (stage.Over e) = true
+
+-- how it ended, if it is over
+abbrev pub end_of : Stage → Option LoadEnd
+end_of stage.Copies = None
+end_of (stage.Sends of) = None
+end_of (stage.Waits w) = None
+end_of (stage.Over e) = Some e

@@ -1,6 +1,6 @@
 -- What a step of a load gives, and how far the load has come after it.
-use Rattle.std.specs.Prelude.{◌≡◌, ℕ, ℤ, ◌==◌, Bool, ◌&&◌, nat_lt, if◌then◌else◌, List, [], ◌∷◌, slice_get}
-use Rattle.std.specs.Prelude.{Option, Some, None, Vec, slice_set}
+use Rattle.std.specs.Prelude.{◌≡◌, ℕ, ℤ, ◌==◌, Bool, false, ◌&&◌, nat_lt, if◌then◌else◌, List, [], ◌∷◌, slice_get}
+use Rattle.std.specs.Prelude.{Option, Some, None, Vec, length, min, slice_set, take}
 use Rattle.std.specs.Option.{option_map}
 use Rattle.std.specs.declared.alloc.Global.{Global}
 use Rattle.cue_machine.specs.declared.address.Address.{Address}
@@ -25,9 +25,9 @@ use Rattle.cue_load_machine.specs.declared.stage.Stage.{Stage}
 use Rattle.cue_load_machine.specs.declared.stage.Stage.TheVariants as stage
 use Rattle.cue_load_machine.specs.declared.stage.Try.{Try}
 use Rattle.cue_load_machine.specs.declared.stage.Waits.{Waits}
-use Rattle.cue_load_machine.specs.Asks.{covers, is_alone, sendings, stops_by}
+use Rattle.cue_load_machine.specs.Asks.{alone_in, covers, is_alone, sendings, stops_by}
 use Rattle.cue_load_machine.specs.Stages as stages
-use Rattle.cue_load_machine.specs.Stages.{again, is_late, late_at, next_place, next_socket, one_less, sent}
+use Rattle.cue_load_machine.specs.Stages.{again, is_late, late_at, next_place, next_socket, one_less, place_of, sent}
 
 -- the bytes of a text, if there is one
 abbrev pub bytes_of : Option (Vec ℕ Global) → Option (List ℕ)
@@ -98,9 +98,19 @@ abbrev pub came_by : Form → ℕ → ℕ → Option Replied → Came
 came_by f since now (Some r) = came.Reply r
 came_by f since now None = if is_late f since now then came.Silence else came.Nothing
 
+-- nobody listens where this socket sends, as is heard
+abbrev pub is_refused : ℕ → Input → Bool
+is_refused socket (input.Datagram at from) = false
+is_refused socket (input.Refused at) = at == socket
+is_refused socket input.Wake = false
+
+abbrev pub came_of : Form → ℕ → ℕ → Bool → Option Replied → Came
+came_of f since now refused reply = if refused then came.Nobody else came_by f since now reply
+
 abbrev pub came_at : ℕ → Option Ask → Waits → Heard → Came
 came_at port None w h = came.Nothing
-came_at port (Some a) w h = came_by a.form w.since h.now (reply_to port a w.of.socket h.input h.bytes)
+came_at port (Some a) w h =
+    came_of a.form w.since h.now (is_refused w.of.socket h.input) (reply_to port a w.of.socket h.input h.bytes)
 
 -- ---- what comes after it
 
@@ -123,12 +133,12 @@ abbrev pub answered : List Ask → Ask → Try → Stage
 answered asks a of = begins asks (next_place of.place (covers a.form)) of.socket
 
 -- a reply stops the load, or is waited for no more; the last of them ends the message
-abbrev pub replied_by : List Ask → Ask → Waits → Option ℤ → Stage
-replied_by asks a w (Some code) = stage.Over (end.Refused w.of.place code)
-replied_by asks a w None = if nat_lt 1 w.rest then stage.Waits (one_less w) else answered asks a w.of
+abbrev pub replied_by : List Ask → Ask → Waits → ℕ → Option ℤ → Stage
+replied_by asks a w now (Some code) = stage.Over (end.Refused w.of.place code)
+replied_by asks a w now None = if nat_lt 1 w.rest then stage.Waits (one_less w now) else answered asks a w.of
 
-abbrev pub replied : List Ask → Ask → Waits → Replied → Stage
-replied asks a w r = replied_by asks a w (stops_by a.refusal r)
+abbrev pub replied : List Ask → Ask → Waits → ℕ → Replied → Stage
+replied asks a w now r = replied_by asks a w now (stops_by a.refusal r)
 
 -- nobody replied, and it may not be sent again: what asks several is asked one by one, else the load is over
 abbrev pub given_up : List Ask → Form → Try → Stage
@@ -139,14 +149,16 @@ given_up asks (form.Together count) of = begins asks (next_place of.place 0) (ne
 abbrev pub silent : List Ask → Form → Try → Stage
 silent asks f of = if nat_lt 0 of.left then stage.Sends (again of) else given_up asks f of
 
-abbrev pub waited : List Ask → Ask → Waits → Came → Stage
-waited asks a w came.Nothing = stage.Waits w
-waited asks a w (came.Reply r) = replied asks a w r
-waited asks a w came.Silence = silent asks a.form w.of
+-- that nobody listens ends the load at once
+abbrev pub waited : List Ask → Ask → Waits → ℕ → Came → Stage
+waited asks a w now came.Nothing = stage.Waits w
+waited asks a w now (came.Reply r) = replied asks a w now r
+waited asks a w now came.Nobody = stage.Over (end.Nobody w.of.place)
+waited asks a w now came.Silence = silent asks a.form w.of
 
-abbrev pub waited_at : List Ask → Option Ask → Waits → Came → Stage
-waited_at asks None w c = stage.Waits w
-waited_at asks (Some a) w c = waited asks a w c
+abbrev pub waited_at : List Ask → Option Ask → Waits → ℕ → Came → Stage
+waited_at asks None w now c = stage.Waits w
+waited_at asks (Some a) w now c = waited asks a w now c
 
 -- a message has left
 abbrev pub sent_at : Option Ask → Try → ℕ → Stage
@@ -157,7 +169,13 @@ sent_at (Some a) of now = stage.Waits (sent a.form of now)
 abbrev pub noted : List (Option Replied) → ℕ → Came → List (Option Replied)
 noted answers slot came.Nothing = answers
 noted answers slot (came.Reply r) = slice_set answers slot (Some r)
+noted answers slot came.Nobody = answers
 noted answers slot came.Silence = answers
+
+-- a place for the reply to each, and nothing was replied yet
+abbrev pub none_told : {R : Type 0} → List Ask → List (Option R)
+none_told [] = []
+none_told (a ∷ asks) = None ∷ none_told asks
 
 -- what is kept of those that ask one thing, in order
 abbrev pub told_of : List Ask → List (Option Replied) → List (Option Replied)
@@ -173,19 +191,19 @@ abbrev pub with_stage : State → Stage → State
 with_stage s at =
     record { port = s.port; manner = s.manner; copy = s.copy; asks = s.asks; answers = s.answers; at = at }
 
-abbrev pub waited_with : State → Waits → Option Ask → Came → State
-waited_with s w found c = record {
+abbrev pub waited_with : State → Waits → Option Ask → ℕ → Came → State
+waited_with s w found now c = record {
   port = s.port;
   manner = s.manner;
   copy = s.copy;
   asks = s.asks;
   answers = noted s.answers w.slot c;
-  at = waited_at s.asks found w c;
+  at = waited_at s.asks found w now c;
 }
 
 abbrev pub after_wait : State → Waits → Heard → State
 after_wait s w h =
-    let found = slice_get s.asks w.of.place in waited_with s w found (came_at s.port found w h)
+    let found = slice_get s.asks w.of.place in waited_with s w found h.now (came_at s.port found w h)
 
 abbrev pub then_at : State → Heard → Stage → State
 then_at s h stage.Copies = with_stage s (begins s.asks 0 0)
@@ -227,6 +245,11 @@ wakes_at m (stage.Over e) = None
 
 abbrev pub wakes : LoadMachine → Option ℕ
 wakes m = wakes_at m m.stage
+
+-- how many things are done: those before the message whose turn it is, or at which it ended
+abbrev pub done : LoadMachine → ℕ
+done m =
+    let all : ℕ = length m.asks.items in alone_in (take (min (place_of all m.stage) all) m.asks.items)
 
 abbrev pub is_over : LoadMachine → Bool
 is_over m = stages.is_over m.stage

@@ -1,8 +1,9 @@
 //! A load that adds what a show file has: as many devices or cues by one datagram as fit into it, and each by itself
 //! if one of the replies to that does not come. A datagram is carried out whole or not at all, so cues that are new
 //! come in the order of the file, also if one was lost and each is asked again.
-ghost use Rattle.std.specs.Prelude.{◌≤◌, ◌<◌, List, IfOk, OnOk, length};
+ghost use Rattle.std.specs.Prelude.{◌≡◌, ◌≤◌, ◌<◌, List, IfOk, OnOk, length};
 ghost use Rattle.cue_load_machine.specs.declared.asks.Ask.{Ask as ask};
+ghost use Rattle.cue_show_file.specs.declared.mistake.Subject.{Subject as subject};
 ghost use Rattle.cue_load_machine.specs.Addings.{AddsOne, AddsGroups, IsAdding, PushesEach};
 ghost use Rattle.cue_load_machine.specs.Letters as letter;
 
@@ -11,7 +12,7 @@ use crate::letters::{ask_of, ask_of_cues, ask_of_device, ask_of_devices};
 use crate::machine::LoadMachine;
 use cue_desk::asking::{AskFault, Asked, cues_that_fit, devices_that_fit};
 use cue_loading::Manner;
-use cue_show_file::{CueEntry, DeviceEntry};
+use cue_show_file::{CueEntry, DeviceEntry, Subject};
 use std::alloc::Global;
 
 /// A device or a cue of a show file.
@@ -21,6 +22,13 @@ pub trait Entry: Sized {
 
     /// This asks for all of these.
     ghost asks_together: { List Self → ask → Type 0 };
+
+    /// What it is called.
+    ghost called: { Self → subject };
+
+    /// What it is called.
+    fn subject(&self) -> Subject
+        ensures { result ≡ called self.now };
 
     /// What asks for it to be added.
     fn alone(&self, alloc: Global) -> Result<Ask, AskFault>
@@ -41,6 +49,12 @@ impl Entry for DeviceEntry {
 
     ghost asks_together = { letter.AsksForDevices };
 
+    ghost called = { letter.device_called };
+
+    fn subject(&self) -> Subject {
+        Subject::Device(self.number)
+    }
+
     fn alone(&self, alloc: Global) -> Result<Ask, AskFault> {
         ask_of_device(alloc, self)
     }
@@ -58,6 +72,12 @@ impl Entry for CueEntry {
     ghost asks_alone = { letter.AsksForCue };
 
     ghost asks_together = { letter.AsksForCues };
+
+    ghost called = { letter.cue_called };
+
+    fn subject(&self) -> Subject {
+        Subject::Cue(self.number)
+    }
 
     fn alone(&self, alloc: Global) -> Result<Ask, AskFault> {
         let asked = Asked::AddCue(self.number, &self.parts);

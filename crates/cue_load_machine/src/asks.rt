@@ -13,7 +13,7 @@ pub const MAX_SENDINGS: u32 = 4;
 /// How long the reply to such a one is waited for, in milliseconds, before it is sent again.
 pub const PATIENCE: u64 = 250;
 
-/// How long all replies to a bundle are waited for, in milliseconds.
+/// How long the next reply to a bundle is waited for, in milliseconds, since that left or since the last one came.
 pub const PATIENCE_TOGETHER: u64 = 1_000;
 
 /// What a message asks.
@@ -75,7 +75,7 @@ impl Form {
         }
     }
 
-    /// How long these are waited for, in milliseconds.
+    /// How long the next of these is waited for, in milliseconds.
     pub fn patience(self) -> u64
         ensures { result ≡ asking.patience self }
     {
@@ -102,6 +102,23 @@ pub(crate) fn push_ask(asks: &mut Vec<Ask>, ask: Ask) -> Result<(), AllocError>
 {
     asks.push(ask)?;
     Ok(())
+}
+
+/// How many of these ask one thing.
+pub(crate) fn alone_in(asks: &[Ask]) -> usize
+    ensures { result ≡ asking.alone_in asks.now }
+{
+    match asks {
+        [] => 0,
+        [first, rest @ ..] => {
+            let more = alone_in(rest);
+            if first.form.is_alone() {
+                more.saturating_add(1)
+            } else {
+                more
+            }
+        }
+    }
 }
 
 // The code of what was refused.

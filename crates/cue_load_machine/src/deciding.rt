@@ -6,7 +6,7 @@ use crate::asks::{Ask, Form};
 use crate::stage::{LoadEnd, Stage, Try, Waits, is_late, next_place, next_socket};
 use cue_ask_machine::home;
 use cue_desk::replying::Replied;
-use cue_machine::Address;
+use cue_machine::{Address, Input};
 use std::alloc::AllocError;
 
 /// What that which was heard means for a message that was sent.
@@ -16,7 +16,9 @@ pub enum Came {
     Nothing,
     /// It is a reply to it.
     Reply(Replied),
-    /// The time for its replies has passed.
+    /// Nobody listens where it was sent.
+    Nobody,
+    /// The time for the next of its replies has passed.
     Silence,
 }
 
@@ -28,8 +30,29 @@ pub fn is_theirs(port: u16, socket: usize, at: usize, from: Address) -> bool
     at == socket && (from.host == home.host && from.port == home.port)
 }
 
-/// What is heard means this for a message, if it is this reply to it.
-pub fn came_by(form: Form, since: u64, now: u64, reply: Option<Replied>) -> Came
+/// Whether it is heard that nobody listens where this socket sends.
+pub fn is_refused(socket: usize, input: Input) -> bool
+    ensures { result ≡ step.is_refused socket input }
+{
+    match input {
+        Input::Datagram { .. } => false,
+        Input::Refused { at } => at == socket,
+        Input::Wake => false,
+    }
+}
+
+/// What is heard means this for a message, if it says that nobody listens, or else is this reply to it.
+pub fn came_of(form: Form, since: u64, now: u64, refused: bool, reply: Option<Replied>) -> Came
+    ensures { result ≡ step.came_of form since now refused reply }
+{
+    if refused {
+        return Came::Nobody;
+    }
+    came_by(form, since, now, reply)
+}
+
+// What is heard means this for a message, if it is this reply to it.
+fn came_by(form: Form, since: u64, now: u64, reply: Option<Replied>) -> Came
     ensures { result ≡ step.came_by form since now reply }
 {
     match reply {
@@ -58,9 +81,9 @@ pub fn begins(asks: &[Ask], place: usize, socket: usize) -> Stage
     }
 }
 
-// After a reply to a message.
-fn replied(asks: &[Ask], ask: &Ask, waits: Waits, reply: &Replied) -> Stage
-    ensures { result ≡ step.replied asks.now ask.now waits reply.now }
+// After a reply to a message, at this moment.
+fn replied(asks: &[Ask], ask: &Ask, waits: Waits, now: u64, reply: &Replied) -> Stage
+    ensures { result ≡ step.replied asks.now ask.now waits now reply.now }
 {
     let of = waits.of;
     match ask.refusal.stops_by(reply) {
@@ -70,7 +93,7 @@ fn replied(asks: &[Ask], ask: &Ask, waits: Waits, reply: &Replied) -> Stage
         }),
         None => {
             if waits.rest > 1 {
-                return Stage::Waits(waits.one_less());
+                return Stage::Waits(waits.one_less(now));
             }
             begins(asks, next_place(of.place, ask.form.covers()), of.socket)
         }
@@ -97,13 +120,16 @@ fn silent(asks: &[Ask], form: Form, of: Try) -> Stage
     given_up(asks, form, of)
 }
 
-/// After this for a message that was sent.
-pub fn waited(asks: &[Ask], ask: &Ask, waits: Waits, came: &Came) -> Stage
-    ensures { result ≡ step.waited asks.now ask.now waits came.now }
+/// After this for a message that was sent, at this moment.
+pub fn waited(asks: &[Ask], ask: &Ask, waits: Waits, now: u64, came: &Came) -> Stage
+    ensures { result ≡ step.waited asks.now ask.now waits now came.now }
 {
     match came {
         Came::Nothing => Stage::Waits(waits),
-        Came::Reply(reply) => replied(asks, ask, waits, reply),
+        Came::Reply(reply) => replied(asks, ask, waits, now, reply),
+        Came::Nobody => Stage::Over(LoadEnd::Nobody {
+            place: waits.of.place,
+        }),
         Came::Silence => silent(asks, ask.form, waits.of),
     }
 }
@@ -119,6 +145,7 @@ pub fn note(answers: &mut Vec<Option<Replied>>, slot: usize, came: Came)
             }
         }
         Came::Nothing => {}
+        Came::Nobody => {}
         Came::Silence => {}
     }
 }
@@ -144,12 +171,17 @@ pub fn push_told(
     }
 }
 
-/// Puts so many after the others to which nothing was replied.
-pub fn push_none<T: Copy>(answers: &mut Vec<Option<T>>, count: usize) -> Result<(), AllocError> {
-    for _ in 0..count {
-        answers.push(None)?;
+/// Puts a place for the reply to each of these after the others; nothing was replied yet.
+pub fn push_none<T: Copy>(answers: &mut Vec<Option<T>>, asks: &[Ask]) -> Result<(), AllocError>
+    ensures { OnOk result (answers.new.items ≡ answers.old.items ++ step.none_told asks.now) }
+{
+    match asks {
+        [] => Ok(()),
+        [_, rest @ ..] => {
+            answers.push(None)?;
+            push_none(answers, rest)
+        }
     }
-    Ok(())
 }
 
 /// Where a load begins: with the copy, if there is one.

@@ -3,12 +3,13 @@ ghost use Rattle.std.specs.Prelude.{◌≡◌, ◌++◌, ◌∷◌, [], IfOk, On
 ghost use Rattle.cue_machine.specs.Hearing.{heard_as};
 ghost use Rattle.cue_load_machine.specs.Letters.{IsAsking};
 ghost use Rattle.cue_load_machine.specs.Lives.{IsNew};
+ghost use Rattle.cue_load_machine.specs.Stages.{end_of};
 ghost use Rattle.cue_load_machine.specs.Steps as step;
 ghost use Rattle.cue_load_machine.specs.Steps.{state_of};
 
-use crate::asks::Ask;
+use crate::asks::{Ask, alone_in};
 use crate::deciding::{
-    Came, begins, came_by, first_stage, is_theirs, note, push_none, push_told, waited,
+    Came, begins, came_of, first_stage, is_refused, is_theirs, note, push_none, push_told, waited,
 };
 use crate::letters::asks_of;
 use crate::stage::{LoadEnd, Stage, Try, Waits, late_at};
@@ -65,9 +66,10 @@ impl LoadMachine {
         ensures port { IfOk result (λ m. m.port ≡ port) }
         ensures manner { IfOk result (λ m. m.manner ≡ manner) }
         ensures fresh { IfOk result (λ m. IsNew (state_of m)) }
+        ensures untold { IfOk result (λ m. m.answers.items ≡ step.none_told asks.items) }
     {
         let mut answers = Vec::new(alloc);
-        push_none(&mut answers, asks.len())?;
+        push_none(&mut answers, &asks)?;
         let stage = first_stage(&copy, &asks);
         Ok(LoadMachine {
             alloc,
@@ -105,15 +107,19 @@ impl LoadMachine {
         Ok(told)
     }
 
-    /// How many things are done.
-    pub fn done(&self) -> usize {
-        let mut done = 0usize;
-        for ask in self.asks.iter().take(self.stage.place(self.asks.len())) {
-            if ask.form.is_alone() {
-                done = done.saturating_add(1);
-            }
-        }
-        done
+    /// How many things are done: those that stand before the message whose turn it is, or at which it ended.
+    pub fn done(&self) -> usize
+        ensures { result ≡ step.done self.now }
+    {
+        let place = self.stage.place(self.asks.len()).min(self.asks.len());
+        alone_in(&self.asks[..place])
+    }
+
+    /// How it ended, if it is over.
+    pub fn end(&self) -> Option<LoadEnd>
+        ensures { result ≡ end_of self.now.stage }
+    {
+        self.stage.end()
     }
 
     /// How far it has come.
@@ -178,19 +184,20 @@ impl LoadMachine {
         match self.asks.get(waits.of.place) {
             Some(ask) => {
                 let reply = self.reply_to(ask, waits.of.socket, input, bytes)?;
-                Ok(came_by(ask.form, waits.since, now, reply))
+                let refused = is_refused(waits.of.socket, input);
+                Ok(came_of(ask.form, waits.since, now, refused, reply))
             }
             None => Ok(Came::Nothing),
         }
     }
 
-    // The stage after this for the message that was sent.
-    fn after_wait(&self, waits: Waits, came: &Came) -> Stage
+    // The stage after this for the message that was sent, at this moment.
+    fn after_wait(&self, waits: Waits, now: u64, came: &Came) -> Stage
         ensures { let found = slice_get self.now.asks.items waits.of.place in
-            result ≡ step.waited_at self.now.asks.items found waits came.now }
+            result ≡ step.waited_at self.now.asks.items found waits now came.now }
     {
         match self.asks.get(waits.of.place) {
-            Some(ask) => waited(&self.asks, ask, waits, came),
+            Some(ask) => waited(&self.asks, ask, waits, now, came),
             None => Stage::Waits(waits),
         }
     }
@@ -213,7 +220,7 @@ impl LoadMachine {
     {
         match self.came(waits, now, input, bytes) {
             Ok(came) => {
-                self.stage = self.after_wait(waits, &came);
+                self.stage = self.after_wait(waits, now, &came);
                 note(&mut self.answers, waits.slot, came);
                 Ok(())
             }

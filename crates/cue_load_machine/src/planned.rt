@@ -2,8 +2,8 @@
 ghost use Rattle.std.specs.Prelude.{◌≡◌, IfOk, IfSome, OnOk, true, false};
 ghost use Rattle.cue_loading.specs.Steps.{goes_on};
 ghost use Rattle.cue_load_machine.specs.Plans.{IsMachineOf, IsPlanned, PushesAsks, copy_for, is_exact, is_open};
-ghost use Rattle.cue_load_machine.specs.Plans.{removes_some, rests};
-ghost use Rattle.cue_load_machine.specs.Letters.{removes};
+ghost use Rattle.cue_load_machine.specs.Plans.{removes_some, rests, subject_at};
+ghost use Rattle.cue_load_machine.specs.Letters.{removes, subject_of};
 
 use crate::asks::{Ask, push_ask};
 use crate::letters::ask_of_step;
@@ -11,6 +11,7 @@ use crate::machine::LoadMachine;
 use cue_desk::asking::AskFault;
 use cue_loading::{Manner, Step, plan};
 use cue_show::Show;
+use cue_show_file::Subject;
 use std::alloc::Global;
 
 /// A plan, and the machine that carries it out.
@@ -57,7 +58,31 @@ fn removes_some(steps: &[Step]) -> bool
     }
 }
 
+// What a step is about.
+fn subject_of(step: &Step) -> Subject
+    ensures { result ≡ subject_of step.now }
+{
+    match step {
+        Step::AddDevice(device, _) => Subject::Device(*device),
+        Step::RemoveDevice(device) => Subject::Device(*device),
+        Step::AddCue(cue, _) => Subject::Cue(*cue),
+        Step::RemoveCue(cue) => Subject::Cue(*cue),
+        Step::MovePlace(cue) => Subject::Cue(*cue),
+    }
+}
+
 impl Planned {
+    /// What the step is about whose turn it is, or at which the load ended; none if all are done.
+    pub fn subject(&self) -> Option<Subject>
+        ensures { result ≡ subject_at self.now }
+    {
+        let place = self.machine.stage().place(self.steps.len());
+        match self.steps.get(place) {
+            Some(step) => Some(subject_of(step)),
+            None => None,
+        }
+    }
+
     /// Whether something that was asked may have been taken away.
     pub fn is_open(&self) -> bool
         ensures { result ≡ is_open self.now }
@@ -96,8 +121,8 @@ fn push_asks(alloc: Global, asks: &mut Vec<Ask>, steps: &[Step]) -> Result<(), A
     }
 }
 
-// Whether what the file does not have is removed, too.
-fn is_exact(manner: Manner) -> bool
+/// Whether what the file does not have is removed, too.
+pub fn is_exact(manner: Manner) -> bool
     ensures { result ≡ is_exact manner }
 {
     match manner {

@@ -25,7 +25,7 @@ pub struct Try {
 #[derive(Clone, Copy, Debug, PartialEq, Eq)]
 pub struct Waits {
     pub of: Try,
-    /// When it was sent.
+    /// When it was sent, or when the last reply to it came.
     pub since: u64,
     /// How many of its replies have not come.
     pub rest: usize,
@@ -42,6 +42,8 @@ pub enum LoadEnd {
     Refused { place: usize, code: i32 },
     /// Nobody replied to the message of this place, as often as it was sent.
     Silent { place: usize },
+    /// Nobody listened where the message of this place was sent.
+    Nobody { place: usize },
     /// The copy of the store could not be written, and without it nothing is taken away.
     NotKept,
 }
@@ -89,7 +91,7 @@ pub fn next_slot(slot: usize) -> usize
     slot.saturating_add(1)
 }
 
-/// When the time for the replies ends, to a message that was sent at this moment.
+/// When the time for the next reply ends, to a message that was sent, or replied to last, at this moment.
 pub fn late_at(form: Form, since: u64) -> u64
     ensures { result ≡ stages.late_at form since }
 {
@@ -134,13 +136,13 @@ impl Try {
 }
 
 impl Waits {
-    /// One of its replies has come.
-    pub fn one_less(self) -> Waits
-        ensures { result ≡ stages.one_less self }
+    /// One of its replies has come at this moment.
+    pub fn one_less(self, now: u64) -> Waits
+        ensures { result ≡ stages.one_less self now }
     {
         Waits {
             of: self.of,
-            since: self.since,
+            since: now,
             rest: self.rest.saturating_sub(1),
             slot: next_slot(self.slot),
         }
@@ -156,6 +158,7 @@ impl LoadEnd {
             LoadEnd::Done => all,
             LoadEnd::Refused { place, .. } => place,
             LoadEnd::Silent { place } => place,
+            LoadEnd::Nobody { place } => place,
             LoadEnd::NotKept => 0,
         }
     }
@@ -168,6 +171,7 @@ impl LoadEnd {
             LoadEnd::Done => all,
             LoadEnd::Refused { place, .. } => next_slot(place),
             LoadEnd::Silent { place } => next_slot(place),
+            LoadEnd::Nobody { place } => next_slot(place),
             LoadEnd::NotKept => 0,
         }
     }
@@ -220,6 +224,18 @@ impl Stage {
             }
             Stage::Waits(waits) => next_slot(waits.of.place),
             Stage::Over(end) => end.asked(all),
+        }
+    }
+
+    /// How it ended, if it is over.
+    pub fn end(self) -> Option<LoadEnd>
+        ensures { result ≡ stages.end_of self }
+    {
+        match self {
+            Stage::Copies => None,
+            Stage::Sends(_) => None,
+            Stage::Waits(_) => None,
+            Stage::Over(end) => Some(end),
         }
     }
 

@@ -8,8 +8,9 @@ use Rattle.cue_relay.specs.declared.hearing.Pending.{Pending}
 use Rattle.cue_relay.specs.declared.messages.Message.TheVariants as says
 use Rattle.cue_relay.specs.declared.status.Ordered.{Ordered}
 use Rattle.cue_relay.specs.declared.status.Ordered.TheVariants.{Standby, Go, Cancel}
-use Rattle.cue_relay.specs.Hearing.{is_answer_due, now_pending, after_order}
+use Rattle.cue_relay.specs.Hearing.{is_answer_due, now_pending, ordered, after_order}
 use Rattle.cue_relay.specs.Hearing.{is_any_overdue, falls_silent, after_time}
+use Rattle.cue_relay.specs.Motions.{is_late}
 use Rattle.cue_relay.specs.Silences.{Sight, went, passed, after_sight, known_after, is_quiet, SilentIsAsked}
 use Rattle.cue_relay.specs.Silences.{AtRestIsNotSilent}
 
@@ -30,22 +31,28 @@ overdue_due : (o : Option Pending) (now : ℕ) → is_any_overdue o now ≡ true
 overdue_due None now h = cc
 overdue_due (Some p) now h = (p, refl, no_go p.order (both (is_answer_due p.order) _ h).0)
 
-fits_order : (c : Contact) (o : Ordered) (seq now : ℕ) → Fits (after_order c o seq now)
-fits_order c o seq now h =
+fits_ordered : (c : Contact) (o : Ordered) (seq now : ℕ) → Fits (ordered c o seq now)
+fits_ordered c o seq now h =
     (now_pending c.pending o seq now, refl, no_go o (both c.silent (is_answer_due o) h).1)
+
+fits_order : (c : Contact) (o : Ordered) (seq now : ℕ) → Fits c → Fits (after_order c o seq now)
+fits_order c o seq now f = by (is_late c.motion o seq)
+  where
+    by : (b : Bool) → Fits (cond b c (ordered c o seq now))
+    by true = f
+    by false = fits_ordered c o seq now
 
 fits_time : (c : Contact) (now : ℕ) → Fits c → Fits (after_time c now)
 fits_time c now f = by (falls_silent c now) refl
   where
-    by : (b : Bool) → falls_silent c now ≡ b
-        → Fits (cond b (record { heard = c.heard; pending = c.pending; silent = true }) c)
+    by : (b : Bool) → falls_silent c now ≡ b → Fits (cond b (record c { silent = true }) c)
     by true e h = overdue_due c.pending now (both (not c.silent) (is_any_overdue c.pending now) e).1
     by false e h = f h
 
 fits_sight : (c : Contact) (s : Sight) → Fits c → Fits (after_sight c s)
-fits_sight c (went (says.Order o seq) now) f = fits_order c o seq now
+fits_sight c (went (says.Order o seq) now) f = fits_order c o seq now f
 fits_sight c (went says.Reply now) f = f
-fits_sight c (went (says.Answer seq) now) f = λ h. cc
+fits_sight c (went (says.Answer a) now) f = λ h. cc
 fits_sight c (passed now) f = fits_time c now f
 
 fits_all : (seen : List Sight) → Fits (known_after seen)
@@ -73,13 +80,12 @@ rest_time : (c : Contact) (now : ℕ) → IsAtRest c → IsAtRest (after_time c 
 rest_time c now r =
     let none : is_any_overdue c.pending now ≡ false = ap (λ o. is_any_overdue o now) r.0 in
     let still : falls_silent c now ≡ false = rw (r.1, none) refl in
-    subst (λ (b : Bool). IsAtRest (cond b (record { heard = c.heard; pending = c.pending; silent = true }) c))
-    (sym still) r
+    subst (λ (b : Bool). IsAtRest (cond b (record c { silent = true }) c)) (sym still) r
 
 rest_sight : (c : Contact) (s : Sight) → is_quiet s ≡ true → IsAtRest c → IsAtRest (after_sight c s)
 rest_sight c (went (says.Order o seq) now) q r = cc
 rest_sight c (went says.Reply now) q r = r
-rest_sight c (went (says.Answer seq) now) q r = cc
+rest_sight c (went (says.Answer a) now) q r = cc
 rest_sight c (passed now) q r = rest_time c now r
 
 rest_all : (before more : List Sight) → IsAtRest (known_after before) → list_all is_quiet more ≡ true

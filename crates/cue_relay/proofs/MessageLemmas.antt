@@ -273,7 +273,7 @@ mapped f (Some x) y h k = k x refl
 pub stage_says : (d : ℕ) (bytes : List ℕ) (m : Message) → length bytes ≤ MAX_LEN → message_in Stage d bytes ≡ Some m
     → IsAnswerOf d bytes
 stage_says d bytes m short h =
-    mapped (λ (a : Answer). says.Answer (answered_for a)) (answer_in d bytes) m h
+    mapped says.Answer (answer_in d bytes) m h
     (λ a found. answer_in-is d bytes a short found)
 
 reply_is : (bytes : List ℕ) → is_reply bytes ≡ true → IsReply bytes

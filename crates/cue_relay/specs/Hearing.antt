@@ -2,6 +2,8 @@
 -- to stand by or to let go, and for five seconds has answered nothing. One that moves is never silent.
 use Rattle.std.specs.Prelude.{ℕ, ◌-◌, min, Bool, true, false, not, ◌&&◌, nat_eq, nat_le, if◌then◌else◌, Option}
 use Rattle.std.specs.Prelude.{None, Some}
+use Rattle.cue_device.specs.declared.words.Answer.{Answer}
+use Rattle.cue_device.specs.Hearing.{answered_for}
 use Rattle.cue_relay.specs.declared.hearing.Contact.{Contact}
 use Rattle.cue_relay.specs.declared.hearing.News.{News}
 use Rattle.cue_relay.specs.declared.hearing.News.TheVariants.{FirstHeard, HeardAgain, Silent}
@@ -11,6 +13,7 @@ use Rattle.cue_relay.specs.declared.messages.Message.{Message}
 use Rattle.cue_relay.specs.declared.messages.Message.TheVariants as says
 use Rattle.cue_relay.specs.declared.status.Ordered.{Ordered}
 use Rattle.cue_relay.specs.declared.status.Ordered.TheVariants.{Standby, Go, Cancel}
+use Rattle.cue_relay.specs.Motions.{is_go, is_late, motion_after_answer, motion_after_order}
 
 -- the answer is due at once; that of a motion comes at its end
 abbrev pub is_answer_due : Ordered → Bool
@@ -37,12 +40,17 @@ abbrev pub now_pending : Option Pending → Ordered → ℕ → ℕ → Pending
 now_pending pending order seq now = record { order = order; seq = seq; since = since pending order seq now }
 
 -- one that is ordered to move is not silent
-abbrev pub after_order : Contact → Ordered → ℕ → ℕ → Contact
-after_order c order seq now = record {
+abbrev pub ordered : Contact → Ordered → ℕ → ℕ → Contact
+ordered c order seq now = record {
   heard = c.heard;
   pending = Some (now_pending c.pending order seq now);
+  motion = motion_after_order c.motion order seq;
   silent = c.silent && is_answer_due order;
 }
+
+-- a late copy of a GO changes nothing: it is answered once more
+abbrev pub after_order : Contact → Ordered → ℕ → ℕ → Contact
+after_order c order seq now = if is_late c.motion order seq then c else ordered c order seq now
 
 -- ---- answers
 
@@ -52,8 +60,18 @@ left_pending None seq now = None
 left_pending (Some p) seq now =
     if nat_eq p.seq seq then None else Some (record { order = p.order; seq = p.seq; since = now })
 
-abbrev pub after_answer : Contact → ℕ → ℕ → Contact
-after_answer c seq now = record { heard = Some now; pending = left_pending c.pending seq now; silent = false }
+-- the GO of this attempt is its last order, and has no answer
+abbrev pub is_going : Option Pending → ℕ → Bool
+is_going None seq = false
+is_going (Some p) seq = is_go p.order && nat_eq p.seq seq
+
+abbrev pub after_answer : Contact → Answer → ℕ → Contact
+after_answer c a now = record {
+  heard = Some now;
+  pending = left_pending c.pending (answered_for a) now;
+  motion = motion_after_answer (is_going c.pending (answered_for a)) c.motion a;
+  silent = false;
+}
 
 -- the first time, and where it was said to be silent
 abbrev pub told_of_answer : Contact → Option News
@@ -70,12 +88,12 @@ told_of_answer c = first c.heard c.silent
 abbrev pub after_message : Contact → Message → ℕ → Contact
 after_message c (says.Order order seq) now = after_order c order seq now
 after_message c says.Reply now = c
-after_message c (says.Answer seq) now = after_answer c seq now
+after_message c (says.Answer a) now = after_answer c a now
 
 abbrev pub told_of_message : Contact → Message → Option News
 told_of_message c (says.Order order seq) = None
 told_of_message c says.Reply = None
-told_of_message c (says.Answer seq) = told_of_answer c
+told_of_message c (says.Answer a) = told_of_answer c
 
 -- ---- time
 
@@ -93,7 +111,7 @@ abbrev pub falls_silent : Contact → ℕ → Bool
 falls_silent c now = not c.silent && is_any_overdue c.pending now
 
 abbrev pub after_time : Contact → ℕ → Contact
-after_time c now = if falls_silent c now then record { heard = c.heard; pending = c.pending; silent = true } else c
+after_time c now = if falls_silent c now then record c { silent = true } else c
 
 abbrev pub told_of_time : Contact → ℕ → Option News
 told_of_time c now = if falls_silent c now then Some Silent else None

@@ -109,10 +109,6 @@ order_of (command.Standby q t) = says.Order ordered.Standby q
 order_of (command.Go q) = says.Order ordered.Go q
 order_of (command.Cancel q) = says.Order ordered.Cancel q
 
--- an answer, by its number
-abbrev pub answer_of : Answer → Message
-answer_of a = says.Answer (answered_for a)
-
 -- the datagram begins as a reply does
 abbrev pub is_reply : List ℕ → Bool
 is_reply bytes = starts_with nat_eq bytes reply_head
@@ -123,7 +119,7 @@ said_in d bytes = if is_reply bytes then Some says.Reply else option_map order_o
 
 -- what the device d answers
 abbrev pub answered_in : ℕ → List ℕ → Option Message
-answered_in d bytes = option_map answer_of (answer_in d bytes)
+answered_in d bytes = option_map says.Answer (answer_in d bytes)
 
 -- what a datagram says that came at this side of the route of the device d; none if it says nothing that may go on
 abbrev pub message_in : Side → ℕ → List ℕ → Option Message

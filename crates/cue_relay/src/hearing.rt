@@ -1,12 +1,15 @@
 //! When each device was heard, what it has not answered, and when to say that it is silent.
 ghost use Rattle.std.specs.Prelude.{◌≡◌};
 ghost use Rattle.cue_relay.specs.Hearing.{after_answer, after_message, after_order, after_time};
-ghost use Rattle.cue_relay.specs.Hearing.{is_answer_due, is_any_overdue, is_overdue, left_pending, now_pending};
+ghost use Rattle.cue_relay.specs.Hearing.{is_answer_due, is_any_overdue, is_going, is_overdue, left_pending};
+ghost use Rattle.cue_relay.specs.Hearing.{now_pending};
 ghost use Rattle.cue_relay.specs.Hearing.{told_of_answer, told_of_message, told_of_time};
 ghost use Rattle.cue_relay.specs.declared.hearing.TheConstants.{SILENCE};
 
 use crate::messages::Message;
+use crate::motion::Motion;
 use crate::status::Ordered;
+use cue_device::Answer;
 
 /// For how long a device may say nothing although a standby or a cancel is pending, in milliseconds.
 pub const SILENCE: u64 = 5_000;
@@ -28,6 +31,7 @@ pub struct Contact {
     /// When its last answer came, in milliseconds since 1970.
     pub heard: Option<u64>,
     pub pending: Option<Pending>,
+    pub motion: Motion,
     /// Whether it was said that it is silent.
     pub silent: bool,
 }
@@ -97,17 +101,28 @@ fn left_pending(pending: Option<Pending>, seq: u32, now: u64) -> Option<Pending>
     }
 }
 
+// Whether the GO of the attempt of this number is its last order, and has no answer.
+fn is_going(pending: Option<Pending>, seq: u32) -> bool
+    ensures { result ≡ is_going pending seq }
+{
+    match pending {
+        Some(pending) => pending.order.is_go() && pending.seq == seq,
+        None => false,
+    }
+}
+
 impl Contact {
     /// A device that was never heard, and that was sent nothing.
     pub const NEVER: Contact = Contact {
         heard: None,
         pending: None,
+        motion: Motion::Unknown,
         silent: false,
     };
 
-    // It answered for the attempt of this number.
-    fn answer(&mut self, seq: u32, now: u64) -> Option<News>
-        ensures after { self.new ≡ after_answer self.old seq now }
+    // It answered this.
+    fn answer(&mut self, answer: Answer, now: u64) -> Option<News>
+        ensures after { self.new ≡ after_answer self.old answer now }
         ensures news { result ≡ told_of_answer self.old }
     {
         let news = match (self.heard, self.silent) {
@@ -117,17 +132,25 @@ impl Contact {
         };
         *self = Contact {
             heard: Some(now),
-            pending: left_pending(self.pending, seq, now),
+            pending: left_pending(self.pending, answer.seq(), now),
+            motion: self
+                .motion
+                .after_answer(answer, is_going(self.pending, answer.seq())),
             silent: false,
         };
         news
     }
 
-    // It was sent an order. One that moves is not silent.
+    // It was sent an order. One that moves is not silent. A late copy of a GO is answered once more, and starts
+    // nothing.
     fn order(&mut self, order: Ordered, seq: u32, now: u64)
         ensures { self.new ≡ after_order self.old order seq now }
     {
+        if self.motion.is_late(order, seq) {
+            return;
+        }
         self.pending = Some(now_pending(self.pending, order, seq, now));
+        self.motion = self.motion.after_order(order, seq);
         self.silent = self.silent && order.is_answer_due();
     }
 
@@ -142,7 +165,7 @@ impl Contact {
                 None
             }
             Message::Reply => None,
-            Message::Answer { seq } => self.answer(seq, now),
+            Message::Answer(answer) => self.answer(answer, now),
         }
     }
 

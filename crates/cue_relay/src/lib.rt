@@ -8,7 +8,7 @@
 //! that very device, to the stage a reply or an order to it, byte for byte; how much (`Meter`, `specs/Rates.antt`): of
 //! each device at most 100 a second go on to the controller. All else is dropped. `specs/Relayed.antt` says what is
 //! handed on of all that comes; what that comes to in a whole life are laws of `cue_relay_machine`. The laws here
-//! (`specs/Silences.antt`) say who may be silent.
+//! (`specs/Silences.antt`) say who may be silent, and who may still move.
 //!
 //! Why it is so:
 //! - Two sockets for each device: one at 0.0.0.0 would be open on each network of the machine. One port for each
@@ -37,6 +37,7 @@ mod going;
 mod hearing;
 pub mod laws;
 mod messages;
+mod motion;
 mod rate;
 mod relaying;
 mod route;
@@ -45,6 +46,7 @@ pub mod status;
 pub use going::{Going, way_and_message};
 pub use hearing::{Contact, News, Pending, SILENCE, hearing_limits};
 pub use messages::{Message, message_in};
+pub use motion::Motion;
 pub use rate::{Meter, RATE, SECOND, admit, meters};
 pub use relaying::{Counts, Relay};
 pub use route::{Address, Opening, Route, Side, Way, way_of};

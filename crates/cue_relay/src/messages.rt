@@ -15,8 +15,8 @@ pub enum Message {
     Order { order: Ordered, seq: u32 },
     /// A reply of the controller to an answer.
     Reply,
-    /// An answer of the device, for the attempt of this number.
-    Answer { seq: u32 },
+    /// An answer of the device.
+    Answer(Answer),
 }
 
 // How a reply of the controller begins: its address, and its type tag string.
@@ -117,7 +117,7 @@ fn answered_in(device: DeviceNo, datagram: &[u8]) -> Option<Message>
     ensures { result ≡ answered_in device datagram.now }
 {
     let answer = answer_in(device, datagram)?;
-    Some(Message::Answer { seq: answer.seq() })
+    Some(Message::Answer(answer))
 }
 
 // What the controller says to the device.

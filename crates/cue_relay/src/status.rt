@@ -1,5 +1,6 @@
 //! What a relay says of itself, as a small text: the desk reads it to show when each device was heard.
 
+use crate::motion::Motion;
 use crate::relaying::Counts;
 use crate::route::Address;
 use cue_show::DeviceNo;
@@ -31,6 +32,7 @@ pub struct Seen {
     pub heard: Option<u64>,
     /// The order that it was sent and has not answered.
     pub ordered: Option<Ordered>,
+    pub motion: Motion,
     /// Whether it has answered nothing for five seconds, although a standby or a cancel is pending.
     pub silent: bool,
 }
@@ -81,7 +83,7 @@ fn number(word: Option<&str>) -> Option<u64> {
 
 // The time of the first line.
 fn time_in(line: &str) -> Option<u64> {
-    let rest = line.strip_prefix("relay 2 ")?;
+    let rest = line.strip_prefix("relay 3 ")?;
     number(Some(rest))
 }
 
@@ -122,6 +124,17 @@ fn heard_in(words: &mut Split<'_, char>) -> Option<Option<u64>> {
     }
 }
 
+// What is known of its motions, and the line before that; none if no number of an attempt stands there.
+fn motion_in(line: &str) -> Option<(&str, Motion)> {
+    if let Some((rest, seq)) = line.split_once(" moving ") {
+        return Some((rest, Motion::Moving(seq.parse().ok()?)));
+    }
+    match line.split_once(" over ") {
+        Some((rest, seq)) => Some((rest, Motion::Over(seq.parse().ok()?))),
+        None => Some((line, Motion::Unknown)),
+    }
+}
+
 // What is pending for the device, by the last word of its line; the outer None: it is no such word.
 fn ordered_in(word: Option<&str>) -> Option<Option<Ordered>> {
     match word {
@@ -136,6 +149,7 @@ fn seen_in(line: &str) -> Option<Seen> {
         Some(rest) => (rest, true),
         None => (line, false),
     };
+    let (rest, motion) = motion_in(rest)?;
     let mut words = rest.split(' ');
     if words.next()? != "device" {
         return None;
@@ -152,6 +166,7 @@ fn seen_in(line: &str) -> Option<Seen> {
         address,
         heard,
         ordered,
+        motion,
         silent,
     })
 }

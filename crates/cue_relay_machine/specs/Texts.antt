@@ -8,6 +8,8 @@ use Rattle.cue_relay.specs.declared.hearing.News.{News}
 use Rattle.cue_relay.specs.declared.hearing.News.TheVariants.{FirstHeard, HeardAgain, Silent}
 use Rattle.cue_relay.specs.declared.hearing.Pending.{Pending}
 use Rattle.cue_relay.specs.declared.messages.Message.{Message}
+use Rattle.cue_relay.specs.declared.motion.Motion.{Motion}
+use Rattle.cue_relay.specs.declared.motion.Motion.TheVariants.{Unknown, Moving, Over}
 use Rattle.cue_relay.specs.declared.relaying.Counts.{Counts}
 use Rattle.cue_relay.specs.declared.status.Ordered.{Ordered}
 use Rattle.cue_relay.specs.declared.status.Ordered.TheVariants.{Standby, Go, Cancel}
@@ -88,9 +90,16 @@ abbrev pub place_text : Known → List ℕ
 place_text k = codes "device " ++ (decimal k.route.device ++ (codes " "
     ++ (address_text (machine_address k.route.address) ++ codes " ")))
 
--- when it answered last, what it has not answered, and whether it is silent
+-- what is known of its motions
+abbrev pub motion_text : Motion → List ℕ
+motion_text Unknown = []
+motion_text (Moving seq) = codes " moving " ++ decimal seq
+motion_text (Over seq) = codes " over " ++ decimal seq
+
+-- when it answered last, what it has not answered, what is known of its motions, and whether it is silent
 abbrev pub contact_text : Contact → List ℕ
-contact_text c = heard_text c.heard ++ (pending_text c.pending ++ silent_text c.silent)
+contact_text c =
+    heard_text c.heard ++ (pending_text c.pending ++ (motion_text c.motion ++ silent_text c.silent))
 
 -- the line of a device
 abbrev pub seen_text : Known → List ℕ
@@ -98,7 +107,7 @@ seen_text k = place_text k ++ contact_text k.contact
 
 -- when it was written, and how many datagrams were handed on, lost and dropped
 abbrev pub head_text : ℕ → Counts → List ℕ
-head_text now c = codes "relay 2 " ++ (decimal now ++ (codes "\npassed " ++ (decimal c.passed ++ (codes " lost "
+head_text now c = codes "relay 3 " ++ (decimal now ++ (codes "\npassed " ++ (decimal c.passed ++ (codes " lost "
     ++ (decimal c.lost ++ (codes " dropped " ++ (decimal c.dropped ++ codes "\n")))))))
 
 -- the whole status

@@ -1,15 +1,16 @@
 //! The status: what a relay says of itself, as a small text. The desk reads it to show when each device was heard.
 ghost use Rattle.std.specs.Prelude.{◌≡◌, ◌++◌, IfOk, OnOk, flat_map, string_bytes};
 ghost use Rattle.cue_relay_machine.specs.Steps.{file_given, path_of, trouble_given};
-ghost use Rattle.cue_relay_machine.specs.Texts.{contact_text, head_text, heard_text, ordered_word, pending_text};
-ghost use Rattle.cue_relay_machine.specs.Texts.{place_text, seen_text, silent_text, status_text, trouble_line};
+ghost use Rattle.cue_relay_machine.specs.Texts.{contact_text, head_text, heard_text, motion_text, ordered_word};
+ghost use Rattle.cue_relay_machine.specs.Texts.{pending_text, place_text, seen_text, silent_text, status_text};
+ghost use Rattle.cue_relay_machine.specs.Texts.{trouble_line};
 
 use crate::books::Books;
 use crate::known::Known;
 use crate::places::machine_address;
 use cue_machine::{Output, Outputs};
 use cue_relay::status::Ordered;
-use cue_relay::{Contact, Counts, Pending};
+use cue_relay::{Contact, Counts, Motion, Pending};
 use std::alloc::{AllocError, Global};
 use std::fmt::Write;
 
@@ -26,7 +27,7 @@ fn put_head(text: &mut String, now: u64, counts: Counts) -> Result<(), AllocErro
     let (passed, lost, dropped) = (counts.passed, counts.lost, counts.dropped);
     write!(
         text,
-        "relay 2 {now}\npassed {passed} lost {lost} dropped {dropped}\n"
+        "relay 3 {now}\npassed {passed} lost {lost} dropped {dropped}\n"
     )
 }
 
@@ -61,6 +62,17 @@ fn pending_word(pending: Option<Pending>) -> &'static str
     }
 }
 
+// What is known of the motions of a device.
+fn put_motion(text: &mut String, motion: Motion) -> Result<(), AllocError>
+    ensures { OnOk result (string_bytes text.new ≡ string_bytes text.old ++ motion_text motion) }
+{
+    match motion {
+        Motion::Unknown => Ok(()),
+        Motion::Moving(seq) => write!(text, " moving {seq}"),
+        Motion::Over(seq) => write!(text, " over {seq}"),
+    }
+}
+
 // Whether a device is silent, and the end of its line.
 fn silent_word(silent: bool) -> &'static str
     ensures { result.now ≡ silent_text silent }
@@ -83,6 +95,7 @@ fn put_contact(text: &mut String, contact: Contact) -> Result<(), AllocError>
 {
     put_heard(text, contact.heard)?;
     text.push_str(pending_word(contact.pending))?;
+    put_motion(text, contact.motion)?;
     text.push_str(silent_word(contact.silent))
 }
 

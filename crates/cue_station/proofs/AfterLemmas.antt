@@ -28,7 +28,7 @@ use Rattle.cue_station.specs.declared.station.Station.{Station}
 use Rattle.cue_view.specs.declared.view.Told.{Told}
 use Rattle.cue_station.specs.Turns.{Turn}
 use Rattle.cue_station.specs.Alarms.{acknowledged_by, acknowledged_of, differs_by, lasting, nobody_by}
-use Rattle.cue_station.specs.Alarms.{stands_by, trouble_with}
+use Rattle.cue_station.specs.Alarms.{stands_by, trouble_of, trouble_with}
 use Rattle.cue_station.specs.Asking.{followed, going_by, going_of, if_open, is_final, is_open, is_open_ask}
 use Rattle.cue_station.specs.Asking.{is_press_sent, is_quiet, newest_of, presses_of, sent_press}
 use Rattle.cue_station.specs.Choosing.{chosen_by_press, chosen_by_sending, chosen_number, chosen_of, found_in, grown}
@@ -93,25 +93,30 @@ footing now wall stands chosen going quiet calm =
       is_calm = calm;
     }
 
+-- the copy stands, by the turns
+abbrev stands_now : List Turn → ℕ → Bool
+stands_now turns now = stands_by now (trouble_of turns) (answered_of turns) (reading_of turns)
+
 pub footing-kept : (turns : List Turn) (n : Notes) (r : Option Reading) → r ≡ reading_of turns
-    → n.answered ≡ answered_of turns → n.choice ≡ chosen_of turns → n.press ≡ newest_of (presses_of turns)
+    → n.trouble ≡ trouble_of turns → n.answered ≡ answered_of turns → n.choice ≡ chosen_of turns
+    → n.press ≡ newest_of (presses_of turns)
     → open_in (reading_of turns) n.press n.beside ≡ filter (is_open (reading_of turns)) (presses_of turns)
     → (now wall : ℕ) → footing_by n r now wall ≡ footing_of turns now wall
-footing-kept turns n r er ea ec ep eo now wall =
+footing-kept turns n r er et ea ec ep eo now wall =
     ap (λ o. footing_by n o now wall) er
-    ∙ ap (λ p. footing now wall (stands_by now n.answered (reading_of turns)) (chosen_number n.choice)
+    ∙ ap (λ p. footing now wall (stands_by now n.trouble n.answered (reading_of turns)) (chosen_number n.choice)
     (going_by (if_open (reading_of turns) p)) (is_none (if_open (reading_of turns) n.press) && is_none n.beside)
     (not (is_some_final (if_open (reading_of turns) n.press)) && not (is_some_final n.beside))) ep
-    ∙ ap (λ a. footing now wall (stands_by now a (reading_of turns)) (chosen_number n.choice) (going_of turns)
+    ∙ ap₂ (λ w a. footing now wall (stands_by now w a (reading_of turns)) (chosen_number n.choice) (going_of turns)
     (is_none (if_open (reading_of turns) n.press) && is_none n.beside)
-    (not (is_some_final (if_open (reading_of turns) n.press)) && not (is_some_final n.beside))) ea
-    ∙ ap (λ c. footing now wall (stands_by now (answered_of turns) (reading_of turns)) (chosen_number c) (going_of turns)
+    (not (is_some_final (if_open (reading_of turns) n.press)) && not (is_some_final n.beside))) et ea
+    ∙ ap (λ c. footing now wall (stands_now turns now) (chosen_number c) (going_of turns)
     (is_none (if_open (reading_of turns) n.press) && is_none n.beside)
     (not (is_some_final (if_open (reading_of turns) n.press)) && not (is_some_final n.beside))) ec
-    ∙ ap (λ q. footing now wall (stands_by now (answered_of turns) (reading_of turns)) (chosen_number (chosen_of turns))
+    ∙ ap (λ q. footing now wall (stands_now turns now) (chosen_number (chosen_of turns))
     (going_of turns) q (not (is_some_final (if_open (reading_of turns) n.press)) && not (is_some_final n.beside)))
     (quiet-kept (reading_of turns) n.press n.beside (presses_of turns) eo)
-    ∙ ap (λ q. footing now wall (stands_by now (answered_of turns) (reading_of turns)) (chosen_number (chosen_of turns))
+    ∙ ap (λ q. footing now wall (stands_now turns now) (chosen_number (chosen_of turns))
     (going_of turns) (is_quiet turns) q)
     (calm-kept (reading_of turns) n.press n.beside (presses_of turns) eo)
 
@@ -134,7 +139,7 @@ pub may-kept : (turns : List Turn) (n : Notes) (r : Option Reading) (relay : Opt
     (b : Button) → may_by (footing_by n r now wall) (since_in seen) r b ≡ may turns now wall b
 may-kept turns n r relay seen failures views k now wall b =
     ap (λ f. may_by f (since_in seen) r b)
-    (footing-kept turns n r k.reading k.answered k.choice k.press k.opened now wall)
+    (footing-kept turns n r k.reading k.trouble k.answered k.choice k.press k.opened now wall)
     ∙ ap (λ o. may_by (footing_of turns now wall) (since_in seen) o b) k.reading
     ∙ may-since (footing_of turns now wall) (since_in seen) (λ q. seen_since q turns) k.since (reading_of turns) b
 

@@ -302,10 +302,12 @@ step-keeps past s i m k makes =
         stamped = makes.view.stamped ∙ ap stamped_at after.relay;
       };
       copy = subst
-          (λ o. ShowsReading (stands_by i.at (answered_of turns) (reading_of turns)) (λ q. seen_since q turns)
-          (λ q. given_since q turns) i.at i.wall m.step.view o) after.reading
-          (same_reading (stands_by i.at m.notes.answered r) (stands_by i.at (answered_of turns) (reading_of turns))
-          (ap₂ (λ a o. stands_by i.at a o) after.answered after.reading)
+          (λ o. ShowsReading (stands_by i.at (trouble_of turns) (answered_of turns) (reading_of turns))
+          (λ q. seen_since q turns) (λ q. given_since q turns) i.at i.wall m.step.view o) after.reading
+          (same_reading (stands_by i.at m.notes.trouble m.notes.answered r)
+          (stands_by i.at (trouble_of turns) (answered_of turns) (reading_of turns))
+          (ap (λ w. stands_by i.at w m.notes.answered r) after.trouble
+          ∙ ap₂ (λ a o. stands_by i.at (trouble_of turns) a o) after.answered after.reading)
           (since_in m.seen.items) (λ q. seen_since q turns) (given_in m.seen.items) (λ q. given_since q turns)
           after.since after.given i.at i.wall m.step.view r makes.view.copy);
       chosen = makes.view.chosen ∙ ap chosen_number after.choice;

@@ -17,3 +17,4 @@ mod MoveLemmas
 mod EveningLemmas
 mod SaidLemmas
 mod StayLemmas
+mod SightLemmas

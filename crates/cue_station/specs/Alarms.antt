@@ -66,11 +66,20 @@ abbrev pub agree_by : Option Answered → Option Reading → Bool
 agree_by (Some a) (Some r) = agrees a.status r.copy.state
 agree_by _ _ = false
 
--- the copy is young, somebody at our port answered lately, and what he answered is of the store that was copied
-abbrev pub stands_by : ℕ → Option Answered → Option Reading → Bool
-stands_by now a r = is_young now r && (is_alive now a && agree_by a r)
+-- the files were not there when they were looked at last
+abbrev pub is_missing : Option Trouble → Bool
+is_missing (Some trouble.Missing) = true
+is_missing _ = false
 
--- the same, but what he answered is not of that store
+-- the copy that stands for this moment is young, and its files were there when they were looked at last
+abbrev pub in_sight_by : ℕ → Option Trouble → Option ℕ → Bool
+in_sight_by now why read = is_within COPY_MS now read && not (is_missing why)
+
+-- the copy is in sight, somebody at our port answered lately, and what he answered is of the store that was copied
+abbrev pub stands_by : ℕ → Option Trouble → Option Answered → Option Reading → Bool
+stands_by now why a r = in_sight_by now why (read_at r) && (is_alive now a && agree_by a r)
+
+-- the copy is young and somebody answered lately, but what he answered is not of that store
 abbrev pub differs_by : ℕ → Option Answered → Option Reading → Bool
 differs_by now a r = is_young now r && (is_alive now a && not (agree_by a r))
 
@@ -192,14 +201,9 @@ stopped_by (Some since) now = if is_stopped since now then Some (alarm.RelayStop
 abbrev pub relay_stopped : Facts → Option Alarm
 relay_stopped f = stopped_by f.stamped f.at
 
--- the files were not there when they were looked at last
-abbrev pub is_missing : Option Trouble → Bool
-is_missing (Some trouble.Missing) = true
-is_missing _ = false
-
--- a copy is young, and its files were there when they were looked at last
+-- the store is in sight
 abbrev pub is_in_sight : Facts → Bool
-is_in_sight f = is_within COPY_MS f.at f.read && not (is_missing f.trouble)
+is_in_sight f = in_sight_by f.at f.trouble f.read
 
 -- the store is not in sight: why, if it could not be read when it was looked at last
 abbrev pub old_by : Bool → Option Trouble → Option ℕ → Option Alarm

@@ -13,7 +13,7 @@ use Rattle.cue_station.specs.declared.heard.Heard.TheVariants.{Pressed}
 use Rattle.cue_station.specs.declared.heard.Send.{Send}
 use Rattle.cue_station.specs.Turns.{Turn}
 use Rattle.cue_station.specs.Reading.{reading_of, answered_of, question_of, seen_since}
-use Rattle.cue_station.specs.Alarms.{asked_at, differs_since, read_at, stands_by}
+use Rattle.cue_station.specs.Alarms.{asked_at, differs_since, read_at, stands_by, trouble_of}
 use Rattle.cue_station.specs.Asking.{is_press_sent, said_before, said_of}
 use Rattle.cue_station.specs.Choosing.{chosen_of, chosen_number, is_awaited}
 use Rattle.cue_station.specs.Drawing.{ShowsReading, alarms_of, failures_shown}
@@ -77,7 +77,7 @@ pub record AgeIsSo (t : Turn) (past : List Turn) : Type 0 where
 -- the end; an attempt is ready only if GO can be given.
 abbrev pub CopyIsSo : Turn → List Turn → Type 0
 CopyIsSo t past =
-    ShowsReading (stands_by t.input.at (answered_of (t ∷ past)) (reading_of (t ∷ past)))
+    ShowsReading (stands_by t.input.at (trouble_of (t ∷ past)) (answered_of (t ∷ past)) (reading_of (t ∷ past)))
     (λ q. seen_since q (t ∷ past)) (λ q. given_since q (t ∷ past)) t.input.at t.input.wall t.view
     (reading_of (t ∷ past))
 

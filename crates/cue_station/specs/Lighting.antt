@@ -16,7 +16,7 @@ use Rattle.cue_view.specs.declared.view.Next.{Next}
 use Rattle.cue_view.specs.declared.view.Next.TheVariants as next
 use Rattle.cue_station.specs.declared.memory.Reading.{Reading}
 use Rattle.cue_station.specs.Turns.{Turn}
-use Rattle.cue_station.specs.Alarms.{stands_by}
+use Rattle.cue_station.specs.Alarms.{stands_by, trouble_of}
 use Rattle.cue_station.specs.Reading.{reading_of, answered_of, seen_since}
 use Rattle.cue_station.specs.Asking.{going_of, is_calm, is_quiet}
 use Rattle.cue_station.specs.Choosing.{chosen_of, chosen_number}
@@ -88,14 +88,14 @@ abbrev pub may_by : Footing → (ℕ → Option ℕ) → Option Reading → Butt
 may_by f since None b = false
 may_by f since (Some r) b = may_in f since r.copy b
 
--- what a lit button rests on, beside the copy: the copy is young, and is what somebody at our port said lately that he
+-- what a lit button rests on, beside the copy: the copy is in sight, and is what somebody at our port said lately that he
 -- serves; which attempt is chosen; of which the last press is an open GO; and whether a press is open
 abbrev pub footing_of : List Turn → ℕ → ℕ → Footing
 footing_of turns now wall =
     record {
       at = now;
       wall = wall;
-      stands = stands_by now (answered_of turns) (reading_of turns);
+      stands = stands_by now (trouble_of turns) (answered_of turns) (reading_of turns);
       chosen = chosen_number (chosen_of turns);
       going = going_of turns;
       is_quiet = is_quiet turns;

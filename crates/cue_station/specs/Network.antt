@@ -58,8 +58,13 @@ last_heard (Some h) now age = if nat_le h now then last.Ago (min (now - h + age)
 
 -- a device as it is shown
 abbrev pub contacted : ℕ → ℕ → Seen → Contacted
-contacted now age s =
-    record { device = s.device; heard = last_heard s.heard now age; ordered = s.ordered; silent = s.silent }
+contacted now age s = record {
+  device = s.device;
+  heard = last_heard s.heard now age;
+  ordered = s.ordered;
+  motion = s.motion;
+  silent = s.silent;
+}
 
 abbrev pub contacts : ℕ → Status → List Contacted
 contacts age s = map (contacted s.now age) s.devices.items

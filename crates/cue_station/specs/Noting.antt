@@ -69,7 +69,7 @@ footing_by n r now wall =
     record {
       at = now;
       wall = wall;
-      stands = stands_by now n.answered r;
+      stands = stands_by now n.trouble n.answered r;
       chosen = chosen_number n.choice;
       going = going_by (if_open r n.press);
       is_quiet = is_none (if_open r n.press) && is_none n.beside;

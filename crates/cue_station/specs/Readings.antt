@@ -1,13 +1,15 @@
 -- What the law comes to, in single facts.
-use Rattle.std.specs.Prelude.{◌≡◌, ◌+◌, ◌<◌, ◌≤◌, ℕ, true, false, List, ◌∷◌, length, Option, None, Some, IsTrue, nat_eq}
-use Rattle.std.specs.Prelude.{nat_le}
+use Rattle.std.specs.Prelude.{◌≡◌, ◌+◌, ◌<◌, ◌≤◌, ℕ, true, false, List, ◌∷◌, length, Option, None, Some}
+use Rattle.std.specs.Prelude.{IsSome, IsTrue, nat_eq, nat_le}
 use Rattle.std.specs.List.{list_any}
 use Rattle.cue_core.specs.declared.limits.TheConstants.{STANDBY_MS}
 use Rattle.cue_exchange.specs.Live.{attempt_of}
 use Rattle.cue_exchange.specs.declared.attempt.Attempt.{Attempt}
+use Rattle.cue_view.specs.declared.button.Button.{Button}
 use Rattle.cue_view.specs.declared.button.Button.TheVariants as button
 use Rattle.cue_station.specs.declared.heard.Copied.{Copied}
 use Rattle.cue_view.specs.declared.view.Next.TheVariants as next
+use Rattle.cue_view.specs.Sight.{is_in_sight}
 use Rattle.cue_station.specs.declared.limits.TheConstants.{KEPT_FAILURES}
 use Rattle.cue_station.specs.declared.memory.Reading.{Reading}
 use Rattle.cue_station.specs.Turns.{Turn}
@@ -17,6 +19,7 @@ use Rattle.cue_station.specs.Following.{next_in, has_given, tells_all}
 use Rattle.cue_station.specs.Keeping.{failed_of, knows}
 use Rattle.cue_station.specs.Laws.{Keeps}
 use Rattle.cue_station.specs.Offering.{is_lit}
+use Rattle.cue_station.specs.Pressing.{order_of}
 use Rattle.cue_station.specs.Reading.{reading_of, seen_since}
 use Rattle.cue_station.specs.Sendings.{gives}
 use Rattle.cue_station.specs.Smaller.{is_failure_of}
@@ -48,6 +51,12 @@ DeadlineIsDark =
     (t : Turn) (past : List Turn) (c : List ℕ) (q : ℕ) → Keeps t past
     → IsTrue (is_lit (button.Go c q) t.view.lit.items)
     → IsInTime c q t.input.at t.input.wall (reading_of (t ∷ past)) (seen_since q (t ∷ past))
+
+-- Nothing can be pressed that is sent while the store is out of sight: its copy is old, or its files are gone.
+abbrev pub OutOfSightIsDark : Type 0
+OutOfSightIsDark =
+    (t : Turn) (past : List Turn) (b : Button) → Keeps t past → IsSome (order_of b)
+    → IsTrue (is_lit b t.view.lit.items) → is_in_sight t.view ≡ true
 
 -- what goes wrong in a live attempt has its alarm at once, unless it was seen
 abbrev pub FailingIsSaid : Type 0

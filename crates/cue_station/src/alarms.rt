@@ -56,6 +56,21 @@ pub fn is_young(at: u64, read: Option<u64>) -> bool
     }
 }
 
+// Whether the files were not there when they were looked at last.
+fn is_missing(trouble: Option<Trouble>) -> bool
+    ensures { result ≡ alarms.is_missing trouble }
+{
+    matches!(trouble, Some(Trouble::Missing))
+}
+
+/// Whether a copy is in sight that stands for the moment `read`: it is young, and its files were there when they were
+/// looked at last.
+pub fn in_sight_by(at: u64, trouble: Option<Trouble>, read: Option<u64>) -> bool
+    ensures { result ≡ alarms.in_sight_by at trouble read }
+{
+    is_young(at, read) && !is_missing(trouble)
+}
+
 // Nobody answers at the port.
 fn silence(facts: Facts) -> Option<Alarm>
     ensures { result ≡ alarms.silence facts }
@@ -137,25 +152,11 @@ fn relay_stopped(facts: Facts) -> Option<Alarm>
     }
 }
 
-// Whether the files were not there when they were looked at last.
-fn is_missing(trouble: Option<Trouble>) -> bool
-    ensures { result ≡ alarms.is_missing trouble }
-{
-    matches!(trouble, Some(Trouble::Missing))
-}
-
-// Whether a copy is young, and its files were there when they were looked at last.
-fn is_in_sight(facts: Facts) -> bool
-    ensures { result ≡ alarms.is_in_sight facts }
-{
-    is_young(facts.at, facts.read) && !is_missing(facts.trouble)
-}
-
 // The store is not in sight.
 fn old_store(facts: Facts) -> Option<Alarm>
     ensures { result ≡ alarms.old_store facts }
 {
-    if is_in_sight(facts) {
+    if in_sight_by(facts.at, facts.trouble, facts.read) {
         return None;
     }
     match facts.trouble {

@@ -2,7 +2,7 @@
 ghost use Rattle.std.specs.Prelude.{◌≡◌};
 ghost use Rattle.cue_station.specs.Examples.{LitUnheardIsRefused, OtherCueIsRefused, UnpressedIsRefused};
 ghost use Rattle.cue_station.specs.Readings.{AfterGoNothing, DeadlineIsDark, FailingIsSaid, FailureIsKept};
-ghost use Rattle.cue_station.specs.Readings.{NoCueAfterEnd};
+ghost use Rattle.cue_station.specs.Readings.{NoCueAfterEnd, OutOfSightIsDark};
 ghost use Rattle.cue_station.specs.declared.limits.TheConstants.{ASK_AGAIN_MS, ASK_MS, COPY_MS, KEPT_FAILURES};
 ghost use Rattle.cue_station.specs.declared.limits.TheConstants.{KEPT_SEEN, KEPT_VIEWS, MAX_TOLD, OTHER_MS};
 ghost use Rattle.cue_station.specs.declared.limits.TheConstants.{PRESS_MS, RELAY_MS, SHOWN_MS, STATUS_MS, TAP_MS};
@@ -21,6 +21,11 @@ pub fn after_go_nothing()
 /// which ten seconds since it was first seen are not over by the one that never goes back.
 pub fn deadline_is_dark()
     ensures { DeadlineIsDark }
+{}
+
+/// What is lit and sends something is lit only while the store is in sight: no alarm says that it is old, or gone.
+pub fn out_of_sight_is_dark()
+    ensures { OutOfSightIsDark }
 {}
 
 /// A device that failed in a live attempt is an alarm in the first view that has read it, and so is a live attempt

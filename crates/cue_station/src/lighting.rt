@@ -9,7 +9,7 @@ ghost use Rattle.cue_station.specs.Alarms as alarms;
 ghost use Rattle.cue_station.specs.Lighting as lighting;
 ghost use Rattle.cue_station.specs.Showing.{since_in};
 
-use crate::alarms::{is_alive, is_young};
+use crate::alarms::{in_sight_by, is_alive, is_young};
 use crate::following::next_in;
 use crate::heard::Copied;
 use crate::memory::{Answered, Reading, Seen};
@@ -19,14 +19,14 @@ use cue_core::State;
 use cue_exchange::Attempt;
 use cue_show::{CueNo, DeviceNo};
 use cue_view::button::Button;
-use cue_view::view::Next;
+use cue_view::view::{Next, Trouble};
 
 /// What a lit button rests on, beside the copy and the attempts that are seen.
 #[derive(Clone, Copy)]
 pub struct Footing {
     pub at: u64,
     pub wall: u64,
-    /// Whether the copy is young, and is what somebody served lately.
+    /// Whether the copy is in sight, and is what somebody served lately.
     pub stands: bool,
     pub chosen: Option<u32>,
     /// The attempt of the last press, if that is a GO that is open.
@@ -68,16 +68,21 @@ fn agree_by(answered: &Option<Answered>, reading: &Option<Reading>) -> bool
     }
 }
 
-/// Whether the copy is young, somebody answered a status lately, and that is of the store that was copied.
-pub(crate) fn stands_by(at: u64, answered: &Option<Answered>, reading: &Option<Reading>) -> bool
-    ensures { result ≡ alarms.stands_by at answered.now reading.now }
+/// Whether the copy is in sight, somebody answered a status lately, and that is of the store that was copied.
+pub(crate) fn stands_by(
+    at: u64,
+    trouble: Option<Trouble>,
+    answered: &Option<Answered>,
+    reading: &Option<Reading>,
+) -> bool
+    ensures { result ≡ alarms.stands_by at trouble answered.now reading.now }
 {
-    is_young(at, read_at(reading))
+    in_sight_by(at, trouble, read_at(reading))
         && is_alive(at, asked_at(answered))
         && agree_by(answered, reading)
 }
 
-/// The same, but what is served is another store.
+/// Whether the copy is young and somebody answered a status lately, but of another store.
 pub(crate) fn differs_by(at: u64, answered: &Option<Answered>, reading: &Option<Reading>) -> bool
     ensures { result ≡ alarms.differs_by at answered.now reading.now }
 {

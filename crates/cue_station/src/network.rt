@@ -35,6 +35,7 @@ fn contacted(seen: &Seen, now: u64, age: u64) -> Contacted
         device: seen.device,
         heard: last_heard(seen.heard, now, age),
         ordered: seen.ordered,
+        motion: seen.motion,
         silent: seen.silent,
     }
 }

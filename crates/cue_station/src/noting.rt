@@ -130,7 +130,7 @@ pub(crate) fn footing_by(notes: &Notes, reading: &Option<Reading>, at: u64, wall
     Footing {
         at,
         wall,
-        stands: stands_by(at, &notes.answered, reading),
+        stands: stands_by(at, notes.trouble, &notes.answered, reading),
         chosen: chosen_number(notes.choice),
         going: going_by(&open),
         is_quiet: are_none(&open, &notes.beside),

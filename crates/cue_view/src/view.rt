@@ -3,6 +3,7 @@ ghost use Rattle.std.specs.Prelude.{◌≡◌};
 
 use crate::button::Button;
 use cue_exchange::{Answers, Outcome, Reason, Stage};
+use cue_relay::Motion;
 use cue_relay::status::Ordered;
 use cue_show::{CueNo, DeviceNo};
 use std::marker::Model;
@@ -185,6 +186,8 @@ pub struct Contacted {
     pub heard: LastHeard,
     /// The order that it was sent and has not answered.
     pub ordered: Option<Ordered>,
+    /// What the relay knows of its motions.
+    pub motion: Motion,
     /// Whether the relay calls it silent.
     pub silent: bool,
 }

@@ -1,1 +1,2 @@
+mod RoundLemmas
 pub mod ServeLemmas

@@ -1,18 +1,17 @@
 -- A connection is served.
-use Rattle.std.proofs.Common.{◌≡◌, ◌∙◌, refl, sym, ap, subst, inl, inr, ℕ, true, false, List, Option, Some, None}
+use Rattle.std.proofs.Common.{◌≡◌, ◌∙◌, refl, sym, ap, subst, inl, inr, ℕ, Bool, true, false, List, [], ◌∷◌, ◌++◌}
+use Rattle.cue_desk_run.specs.Working.{OnlyLooks}
+use Rattle.cue_desk_run.proofs.WorkLemmas.{looks_none, looks_then}
 use Rattle.cue_request.specs.declared.identity.PageIdentity.{PageIdentity}
 use Rattle.cue_request.specs.declared.lock.Guard.{Guard}
 use Rattle.cue_station.specs.declared.station.Station.{Station}
 use Rattle.cue_view.specs.declared.view.View.{View}
 use Rattle.cue_web.specs.declared.connection.Asking.{Asking}
 use Rattle.cue_web.specs.declared.connection.Connection.{Connection}
-use Rattle.cue_desk_run.specs.Working.{HearsFor, OnlyLooks}
-use Rattle.cue_desk_run.proofs.WorkLemmas.{for_if, for_looks, for_none, for_stays, for_then}
-use Rattle.cue_request.specs.Locks.{verdict_on}
-use Rattle.cue_request.specs.declared.request.Refusal.{Refusal}
-use Rattle.cue_web.specs.declared.connection.Asking.TheVariants as asking
-use Rattle.cue_web.specs.declared.connection.Pressed.{Pressed}
-use Rattle.cue_web.specs.Serving.{Answers, AsksIn, HearsUnless, IsAsked, IsPressIn, OnlyAsked, Serves, is_asking}
+use Rattle.cue_web.specs.declared.connection.Stage.{Stage}
+use Rattle.cue_web.specs.Serving.{Answers, AsksIn, AsksOnce, IsServed, OnlyAsked, OnlyServed, Serves, Serving, is_asking}
+
+-- ---- one connection
 
 -- it asked, was answered, and asks nothing more
 pub served : (identity : PageIdentity) (g : Guard) (now : ℕ) (c mid c_then : Connection) (old new : Station)
@@ -33,63 +32,69 @@ pub unasked : (identity : PageIdentity) (g : Guard) (now : ℕ) (c c_then : Conn
     → Serves identity g now c c_then s s v v
 unasked identity g now c c_then s v = inr (refl, refl)
 
--- ---- for what the desk hears a press
+-- it asked before
+pub once_first : (old new : Stage) → is_asking old ≡ true → AsksOnce old new
+once_first old new first = record { once = λ asking. first }
 
-unless-for : (identity : PageIdentity) (bytes : List ℕ) (why : Option Refusal) (p : Pressed) (old new : Station)
-    (v v_then : View) → IsPressIn identity bytes p → HearsUnless why p old new v v_then
-    → HearsFor (IsAsked identity) old new
-unless-for identity bytes (Some why) p old new v v_then came stays =
-    for_stays (IsAsked identity) old new v v_then stays
-unless-for identity bytes None p old new v v_then came once =
-    for_if (IsAsked identity) once.is_heard p.view p.button old new v v_then
-    (record { bytes = bytes; press = p; came = came; of_view = refl; of_button = refl }) once.hears
+-- it stands where it stood
+pub once_same : (old new : Stage) → new ≡ old → AsksOnce old new
+once_same old new same = record { once = λ asking. ap (λ (s : Stage). is_asking s) (sym same) ∙ asking }
 
-asked-for : (identity : PageIdentity) (bytes : List ℕ) (g : Guard) (now : ℕ) (a : Asking) (old new : Station)
-    (v v_then : View) → AsksIn identity bytes a → Answers g now a old new v v_then → HearsFor (IsAsked identity) old new
-asked-for identity bytes g now (asking.Press (Some p)) old new v v_then came answers =
-    unless-for identity bytes (verdict_on p.button g now p.said) p old new v v_then came answers
-asked-for identity bytes g now (asking.Press None) old new v v_then came answers =
-    for_stays (IsAsked identity) old new v v_then answers
-asked-for identity bytes g now asking.Page old new v v_then came answers =
-    for_stays (IsAsked identity) old new v v_then answers
-asked-for identity bytes g now asking.View old new v v_then came answers =
-    for_stays (IsAsked identity) old new v v_then answers
-asked-for identity bytes g now asking.ShowFile old new v v_then came answers =
-    for_stays (IsAsked identity) old new v v_then answers
-asked-for identity bytes g now (asking.Refused why) old new v v_then came answers =
-    for_stays (IsAsked identity) old new v v_then answers
+-- it asks no more
+pub once_over : (old new : Stage) → is_asking new ≡ false → AsksOnce old new
+once_over old new over = record { once = λ asking. let e : false ≡ true = sym over ∙ asking in absurd cc }
 
--- a connection is served: what the desk heard of it was asked
-serves-for : (identity : PageIdentity) (g : Guard) (now : ℕ) (c c_then : Connection) (old new : Station)
-    (v v_then : View) → Serves identity g now c c_then old new v v_then → HearsFor (IsAsked identity) old new
-serves-for identity g now c c_then old new v v_then (inl asked) =
-    asked-for identity c_then.input.items g now asked.asks old new v v_then asked.came asked.answers
-serves-for identity g now c c_then old new v v_then (inr stays) = for_stays (IsAsked identity) old new v v_then stays
+-- one after the other
+pub once_then : (old mid new : Stage) → AsksOnce old mid → AsksOnce mid new → AsksOnce old new
+once_then old mid new first second = record { once = λ asking. first.once (second.once asking) }
+
+-- it asks no more, whatever follows
+not-again : (was is : Bool) → (is ≡ true → was ≡ true) → was ≡ false → is ≡ false
+not-again was true once over = sym (once refl) ∙ over
+not-again was false once over = refl
+
+-- it was served, and goes on with its answer
+pub serves_on : (identity : PageIdentity) (g : Guard) (now : ℕ) (c mid c_then : Connection) (old new : Station)
+    (v v_then : View) → Serves identity g now c mid old new v v_then → AsksOnce mid.stage c_then.stage
+    → c_then.input ≡ mid.input → Serves identity g now c c_then old new v v_then
+serves_on identity g now c mid c_then old new v v_then (inl asked) once same =
+    served identity g now c mid c_then old new v v_then asked.asks asked.came asked.first
+    (not-again (is_asking mid.stage) (is_asking c_then.stage) once.once asked.over) same asked.answers
+serves_on identity g now c mid c_then old new v v_then (inr stays) once same = inr stays
+
+-- ---- one connection after the other
 
 -- one connection is served
-pub asked_serves : (identity identity_then : PageIdentity) (g : Guard) (now : ℕ) (c c_then : Connection)
-    (old new : Station) (v v_then : View) → Serves identity g now c c_then old new v v_then → identity_then ≡ identity
-    → OnlyAsked identity identity_then old new
-asked_serves identity identity_then g now c c_then old new v v_then serves same =
-    record { asked = serves-for identity g now c c_then old new v v_then serves; identity = same }
+pub served_one : (page : PageIdentity) (s : Serving) → IsServed page s → OnlyServed page (s ∷ []) s.old s.new
+served_one page s is = (looks_none s.old, is, looks_none s.new)
+
+-- looks come first
+looks-first : (page : PageIdentity) (more : List Serving) (old mid new : Station) → OnlyLooks old mid
+    → OnlyServed page more mid new → OnlyServed page more old new
+looks-first page [] old mid new looks heard = looks_then old mid new looks heard
+looks-first page (s ∷ more) old mid new looks heard = (looks_then old mid s.old looks heard.0, heard.1, heard.2)
+
+-- some are served, and then others
+pub served_then : (page : PageIdentity) (first more : List Serving) (old mid new : Station)
+    → OnlyServed page first old mid → OnlyServed page more mid new → OnlyServed page (first ++ more) old new
+served_then page [] more old mid new a b = looks-first page more old mid new a b
+served_then page (s ∷ first) more old mid new a b = (a.0, a.1, served_then page first more s.new mid new a.2 b)
+
+-- ---- whatever the page served
 
 -- no press is heard
 pub asked_looks : (identity identity_then : PageIdentity) (old new : Station) → OnlyLooks old new
     → identity_then ≡ identity → OnlyAsked identity identity_then old new
-asked_looks identity identity_then old new looks same =
-    record { asked = for_looks (IsAsked identity) old new looks; identity = same }
+asked_looks identity identity_then old new looks same = record { servings = []; heard = looks; identity = same }
 
 -- nothing is heard
 pub asked_none : (identity : PageIdentity) (s : Station) → OnlyAsked identity identity s s
-asked_none identity s = record { asked = for_none (IsAsked identity) s; identity = refl }
+asked_none identity s = asked_looks identity identity s s (looks_none s) refl
 
 pub asked_same : (identity identity_then : PageIdentity) (old new : Station) → new ≡ old → identity_then ≡ identity
     → OnlyAsked identity identity_then old new
 asked_same identity identity_then old new e same =
-    record {
-      asked = subst (λ (s : Station). HearsFor (IsAsked identity) old s) (sym e) (for_none (IsAsked identity) old);
-      identity = same;
-    }
+    asked_looks identity identity_then old new (subst (λ (s : Station). OnlyLooks old s) (sym e) (looks_none old)) same
 
 -- one after the other
 pub asked_then : (identity mid_identity identity_then : PageIdentity) (old mid new : Station)
@@ -97,7 +102,8 @@ pub asked_then : (identity mid_identity identity_then : PageIdentity) (old mid n
     → OnlyAsked identity identity_then old new
 asked_then identity mid_identity identity_then old mid new a b =
     record {
-      asked = for_then (IsAsked identity) old mid new a.asked
-          (subst (λ (i : PageIdentity). HearsFor (IsAsked i) mid new) a.identity b.asked);
+      servings = a.servings ++ b.servings;
+      heard = served_then identity a.servings b.servings old mid new a.heard
+          (subst (λ (i : PageIdentity). OnlyServed i b.servings mid new) a.identity b.heard);
       identity = b.identity ∙ a.identity;
     }

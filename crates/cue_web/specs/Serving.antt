@@ -1,6 +1,6 @@
 -- What a page lets the desk hear.
-use Rattle.std.specs.Prelude.{◌≡◌, ◌⊎◌, ℕ, Bool, true, false, List, Option, None, Some}
-use Rattle.cue_desk_run.specs.Working.{HearsFor, HearsIf, Stays}
+use Rattle.std.specs.Prelude.{◌≡◌, ◌⊎◌, ℕ, Bool, true, false, List, [], ◌∷◌, map, filter, Option, None, Some}
+use Rattle.cue_desk_run.specs.Working.{HearsIf, OnlyLooks, Stays}
 use Rattle.cue_request.specs.declared.identity.PageIdentity.{PageIdentity}
 use Rattle.cue_request.specs.declared.lock.Guard.{Guard}
 use Rattle.cue_request.specs.declared.request.Refusal.{Refusal}
@@ -9,7 +9,6 @@ use Rattle.cue_request.specs.Presses.{body_of}
 use Rattle.cue_request.specs.Requests.{IsCommand}
 use Rattle.cue_station.specs.declared.heard.Heard.TheVariants as heard
 use Rattle.cue_station.specs.declared.station.Station.{Station}
-use Rattle.cue_view.specs.declared.button.Button.{Button}
 use Rattle.cue_view.specs.declared.view.View.{View}
 use Rattle.cue_web.specs.declared.connection.Asking.{Asking}
 use Rattle.cue_web.specs.declared.connection.Asking.TheVariants as asking
@@ -48,23 +47,24 @@ Answers g now (asking.Press (Some p)) old new v v_then =
     HearsUnless (verdict_on p.button g now p.said) p old new v v_then
 Answers g now _ old new v v_then = Stays old new v v_then
 
--- Why a press is heard: what came from a connection is a command of our own page that names this view and this button.
-pub record IsAsked (identity : PageIdentity) (view : ℕ) (b : Button) : Type 0 where
-  pub bytes : List ℕ
-  pub press : Pressed
-  pub came : IsPressIn identity bytes press
-  pub of_view : press.view ≡ view
-  pub of_button : press.button ≡ b
-
--- Each press that the desk heard was asked, and the page is where it was.
-pub record OnlyAsked (page page_then : PageIdentity) (old new : Station) : Type 0 where
-  pub asked : HearsFor (IsAsked page) old new
-  pub identity : page_then ≡ page
+-- ---- one connection
 
 -- its request is awaited
 abbrev pub is_asking : Stage → Bool
 is_asking stage.Asking = true
 is_asking _ = false
+
+-- it is still there
+abbrev pub is_here_at : Stage → Bool
+is_here_at stage.Gone = false
+is_here_at _ = true
+
+abbrev pub is_here : Connection → Bool
+is_here c = is_here_at c.stage
+
+-- One that asks no more does not ask again.
+pub record AsksOnce (old new : Stage) : Type 0 where
+  pub once : is_asking new ≡ true → is_asking old ≡ true
 
 -- It was answered what it asked: a request that came whole, and it asks nothing more.
 pub record ServesAsked (identity : PageIdentity) (g : Guard) (now : ℕ) (c c_then : Connection) (old new : Station)
@@ -79,3 +79,48 @@ pub record ServesAsked (identity : PageIdentity) (g : Guard) (now : ℕ) (c c_th
 abbrev pub Serves : PageIdentity → Guard → ℕ → (c c_then : Connection) → (old new : Station) → (v v_then : View) → Type 0
 Serves identity g now c c_then old new v v_then =
     ServesAsked identity g now c c_then old new v v_then ⊎ Stays old new v v_then
+
+-- ---- one connection after the other
+
+-- A connection was served: at a moment, with this lock; what it was and became, and what the desk was and became.
+pub record Serving : Type 0 where
+  pub at : ℕ
+  pub guard : Guard
+  pub before : Connection
+  pub after : Connection
+  pub old : Station
+  pub new : Station
+  pub view : View
+  pub view_then : View
+
+-- What the desk heard of it is what its own bytes ask and its lock lets through, and it does not ask again.
+pub record IsServed (identity : PageIdentity) (s : Serving) : Type 0 where
+  pub serves : Serves identity s.guard s.at s.before s.after s.old s.new s.view s.view_then
+  pub once : AsksOnce s.before.stage s.after.stage
+
+-- the desk heard nothing but looks, and these connections, which were served one after the other
+abbrev pub OnlyServed : PageIdentity → List Serving → (old new : Station) → Type 0
+OnlyServed identity [] old new = OnlyLooks old new
+OnlyServed identity (s ∷ more) old new =
+    OnlyLooks old s.old × IsServed identity s × OnlyServed identity more s.new new
+
+-- Whatever the page served: the desk heard nothing but looks and connections that were served, and the page is where it
+-- was.
+pub record OnlyAsked (page page_then : PageIdentity) (old new : Station) : Type 0 where
+  pub servings : List Serving
+  pub heard : OnlyServed page servings old new
+  pub identity : page_then ≡ page
+
+-- Each of these connections was served, once and in order, and they were left like this. Nothing else was heard.
+pub record ServesEach (page page_then : PageIdentity) (here left : List Connection) (old new : Station) : Type 0 where
+  pub servings : List Serving
+  pub each : map (λ (s : Serving). s.before) servings ≡ here
+  pub leaves : map (λ (s : Serving). s.after) servings ≡ left
+  pub heard : OnlyServed page servings old new
+  pub identity : page_then ≡ page
+
+-- A round: each connection that is here is served, and those that are still there stay as they were left.
+pub record HasRound (page page_then : PageIdentity) (here here_then : List Connection) (old new : Station) : Type 0 where
+  pub left : List Connection
+  pub served : ServesEach page page_then here left old new
+  pub stay : here_then ≡ filter is_here left

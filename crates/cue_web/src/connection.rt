@@ -1,7 +1,7 @@
 //! One connection to the page: it asks once, is answered, and is closed.
 ghost use Rattle.std.specs.Prelude.{◌≡◌, ◌≤◌, false, true, length, option_map, IfOk, IfSome};
 ghost use Rattle.cue_request.specs.Requests.{IsCommand, OnCommand};
-ghost use Rattle.cue_web.specs.Serving.{AsksIn, IsPressIn, is_asking};
+ghost use Rattle.cue_web.specs.Serving.{AsksIn, AsksOnce, IsPressIn, is_asking, is_here};
 
 use cue_request::identity::PageIdentity;
 use cue_request::lock::{Said, said_at};
@@ -185,13 +185,20 @@ impl Connection {
     }
 
     /// Whether it is still there.
-    pub fn is_here(&self) -> bool {
-        self.stage != Stage::Gone
+    pub fn is_here(&self) -> bool
+        ensures { result ≡ is_here self.now }
+    {
+        match self.stage {
+            Stage::Asking | Stage::Hearing | Stage::Leaving => true,
+            Stage::Gone => false,
+        }
     }
 
     // Reads a piece into this room: how many bytes came; none if it has to be waited for. The end is an error.
     fn read_piece(&mut self, piece: &mut [u8]) -> io::Result<Option<usize>>
-        ensures { IfOk result (λ came. IfSome came (λ n. n ≤ length piece.old)) }
+        ensures within { IfOk result (λ came. IfSome came (λ n. n ≤ length piece.old)) }
+        ensures stage { self.new.stage ≡ self.old.stage }
+        ensures input { self.new.input ≡ self.old.input }
     {
         match self.stream.read(piece) {
             Ok(0) => Err(io::Error::from(ErrorKind::UnexpectedEof)),
@@ -273,9 +280,11 @@ impl Connection {
 
     /// Hears what it asks, if that has come whole, is refused, came too late or has ended before. What has not grown is
     /// not read again, nor a head that grows until its end has come.
+    #[tactic(auto, using(crate::proofs::ServeLemmas::once_first, crate::proofs::ServeLemmas::once_same, crate::proofs::ServeLemmas::once_over))]
     pub fn hear(&mut self, identity: &PageIdentity<'_>, now: u64) -> Option<Asking>
         ensures asks { IfSome result (AsksIn identity.now self.new.input.items) }
         ensures first { IfSome result (λ _. is_asking self.old.stage ≡ true) }
+        ensures once { AsksOnce self.old.stage self.new.stage }
     {
         if !is_asking(self.stage) {
             return None;
@@ -313,7 +322,10 @@ impl Connection {
     }
 
     // Sends as much as there is room for, and answers whether all is sent.
-    fn send_on(&mut self, page: &str) -> io::Result<bool> {
+    fn send_on(&mut self, page: &str) -> io::Result<bool>
+        ensures stage { self.new.stage ≡ self.old.stage }
+        ensures input { self.new.input ≡ self.old.input }
+    {
         for _ in 0..PIECES {
             let rest = self.output.bytes(page).get(self.sent..).unwrap_or(&[]);
             if rest.is_empty() {
@@ -332,7 +344,11 @@ impl Connection {
     }
 
     // Sends on; if all is sent, says that nothing follows.
-    fn finish(&mut self, page: &str) -> io::Result<()> {
+    #[tactic(auto, using(crate::proofs::ServeLemmas::once_same, crate::proofs::ServeLemmas::once_over))]
+    fn finish(&mut self, page: &str) -> io::Result<()>
+        ensures once { AsksOnce self.old.stage self.new.stage }
+        ensures input { self.new.input ≡ self.old.input }
+    {
         if self.send_on(page)? {
             self.stream.shutdown(Shutdown::Write)?;
             self.stage = Stage::Leaving;
@@ -341,7 +357,10 @@ impl Connection {
     }
 
     // Reads what it still says, and drops it.
-    fn drain(&mut self) -> io::Result<()> {
+    fn drain(&mut self) -> io::Result<()>
+        ensures stage { self.new.stage ≡ self.old.stage }
+        ensures input { self.new.input ≡ self.old.input }
+    {
         let mut piece = [0; PIECE];
         for _ in 0..PIECES {
             if self.read_piece(&mut piece)?.is_none() {
@@ -351,13 +370,26 @@ impl Connection {
         Ok(())
     }
 
-    /// Goes on with its answer; this is the page.
-    pub fn go_on(&mut self, page: &str, now: u64) {
-        let went = match self.stage {
+    // Does what is next for its answer.
+    #[tactic(auto, using(crate::proofs::ServeLemmas::once_same))]
+    fn step(&mut self, page: &str) -> io::Result<()>
+        ensures once { AsksOnce self.old.stage self.new.stage }
+        ensures input { self.new.input ≡ self.old.input }
+    {
+        match self.stage {
             Stage::Hearing => self.finish(page),
             Stage::Leaving => self.drain(),
             Stage::Asking | Stage::Gone => Ok(()),
-        };
+        }
+    }
+
+    /// Goes on with its answer; this is the page. If it asks no more, it does not ask again.
+    #[tactic(auto, using(crate::proofs::ServeLemmas::once_over))]
+    pub fn go_on(&mut self, page: &str, now: u64)
+        ensures once { AsksOnce self.old.stage self.new.stage }
+        ensures input { self.new.input ≡ self.old.input }
+    {
+        let went = self.step(page);
         if went.is_err() || (self.stage != Stage::Asking && now >= self.until) {
             self.stage = Stage::Gone;
         }

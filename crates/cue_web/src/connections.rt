@@ -1,7 +1,7 @@
 //! The connections to the page. None of them can keep the others waiting: each has a second, and if there are many
 //! the one that has waited longest gives way.
-ghost use Rattle.std.specs.Prelude.{◌≡◌};
-ghost use Rattle.cue_web.specs.Serving.{OnlyAsked, Serves};
+ghost use Rattle.std.specs.Prelude.{◌≡◌, filter};
+ghost use Rattle.cue_web.specs.Serving.{AsksOnce, HasRound, OnlyAsked, Serves, ServesEach, is_here};
 
 use crate::connection::Connection;
 use crate::pages::Pages;
@@ -29,7 +29,8 @@ const CONNECTION: Token = Token(1);
 #[derive(Drop)]
 pub struct Connections {
     listener: TcpListener,
-    open: Vec<Connection>,
+    // Those that are here, in the order in which they came.
+    here: Vec<Connection>,
 }
 
 // The next connection that waits; none if there is none.
@@ -42,7 +43,7 @@ fn next_stream(listener: &TcpListener, registry: &Registry) -> Option<TcpStream>
 
 // Hears one connection, and answers what it asks: once, and then it asks nothing more. One for whose answer there is no
 // memory is closed without one.
-#[tactic(auto, using(crate::proofs::ServeLemmas::served, crate::proofs::ServeLemmas::unasked))]
+#[tactic(auto, using(crate::proofs::ServeLemmas::served, crate::proofs::ServeLemmas::unasked, crate::proofs::ServeLemmas::once_over))]
 fn serve_one<R: Files<File = File> + Net + Clock + AllocGlobal>(
     alloc: Global,
     connection: &mut Connection,
@@ -52,6 +53,7 @@ fn serve_one<R: Files<File = File> + Net + Clock + AllocGlobal>(
 )
     ensures serves { Serves pages.old.identity pages.old.guard now connection.old connection.new desk.old.station
         desk.new.station desk.old.view desk.new.view }
+    ensures once { AsksOnce connection.old.stage connection.new.stage }
     ensures identity { pages.new.identity ≡ pages.old.identity }
 {
     let Some(asking) = connection.hear(pages.identity(), now) else {
@@ -63,7 +65,8 @@ fn serve_one<R: Files<File = File> + Net + Clock + AllocGlobal>(
     }
 }
 
-// The same, and goes on with its answer.
+// The same, and goes on with its answer: what it said stays, and it does not ask again.
+#[tactic(auto, using(crate::proofs::ServeLemmas::serves_on, crate::proofs::ServeLemmas::once_then))]
 fn serve_next<R: Files<File = File> + Net + Clock + AllocGlobal>(
     alloc: Global,
     connection: &mut Connection,
@@ -71,10 +74,36 @@ fn serve_next<R: Files<File = File> + Net + Clock + AllocGlobal>(
     pages: &mut Pages<'_>,
     now: u64,
 )
-    ensures { OnlyAsked pages.old.identity pages.new.identity desk.old.station desk.new.station }
+    ensures serves { Serves pages.old.identity pages.old.guard now connection.old connection.new desk.old.station
+        desk.new.station desk.old.view desk.new.view }
+    ensures once { AsksOnce connection.old.stage connection.new.stage }
+    ensures identity { pages.new.identity ≡ pages.old.identity }
 {
     serve_one(alloc, connection, desk, pages, now);
     connection.go_on(pages.page(), now);
+}
+
+// Serves each of these connections, one after the other.
+fn serve_each<R: Files<File = File> + Net + Clock + AllocGlobal>(
+    alloc: Global,
+    here: &mut Vec<Connection>,
+    desk: &mut Desk<'_, R>,
+    pages: &mut Pages<'_>,
+    now: u64,
+)
+    ensures { ServesEach pages.old.identity pages.new.identity here.old.items here.new.items desk.old.station
+        desk.new.station }
+{
+    for connection in here.iter_mut() {
+        serve_next(alloc, connection, desk, pages, now);
+    }
+}
+
+// Drops those that are gone.
+fn drop_gone(here: &mut Vec<Connection>)
+    ensures { here.new.items ≡ filter is_here here.old.items }
+{
+    here.retain(|connection| connection.is_here());
 }
 
 impl Connections {
@@ -89,15 +118,15 @@ impl Connections {
         registry.register(&mut listener, LISTENER, Interest::READABLE)?;
         Ok(Connections {
             listener,
-            open: Vec::with_capacity(rt.alloc(), MAX_CONNECTIONS)?,
+            here: Vec::with_capacity(rt.alloc(), MAX_CONNECTIONS)?,
         })
     }
 
     // Sends away the one that has waited longest, if there is no room for one more. They stand in the order in which
     // they came.
     fn make_room(&mut self) {
-        if self.open.len() >= MAX_CONNECTIONS {
-            let _ = self.open.remove(0);
+        if self.here.len() >= MAX_CONNECTIONS {
+            let _ = self.here.remove(0);
         }
     }
 
@@ -108,13 +137,14 @@ impl Connections {
                 return false;
             };
             self.make_room();
-            let _ = self.open.push(Connection::new(alloc, stream, now));
+            let _ = self.here.push(Connection::new(alloc, stream, now));
         }
         true
     }
 
-    /// One round over all connections. The desk hears no press but those that were asked by one of them.
-    #[tactic(auto, using(crate::proofs::ServeLemmas::asked_none, crate::proofs::ServeLemmas::asked_then))]
+    /// One round over all connections. Each is served once, and none asks again that has asked; the desk hears no other
+    /// press.
+    #[tactic(auto, using(crate::proofs::RoundLemmas::has_round, crate::proofs::RoundLemmas::round_asked))]
     pub fn serve<R: Files<File = File> + Net + Clock + AllocGlobal>(
         &mut self,
         alloc: Global,
@@ -122,11 +152,11 @@ impl Connections {
         pages: &mut Pages<'_>,
         now: u64,
     )
-        ensures { OnlyAsked pages.old.identity pages.new.identity desk.old.station desk.new.station }
+        ensures round { HasRound pages.old.identity pages.new.identity self.old.here.items self.new.here.items
+            desk.old.station desk.new.station }
+        ensures asked { OnlyAsked pages.old.identity pages.new.identity desk.old.station desk.new.station }
     {
-        for connection in self.open.iter_mut() {
-            serve_next(alloc, connection, desk, pages, now);
-        }
-        self.open.retain(|connection| connection.is_here());
+        serve_each(alloc, &mut self.here, desk, pages, now);
+        drop_gone(&mut self.here);
     }
 }

@@ -20,6 +20,11 @@ fn is_undone(became: Became) -> bool {
     matches!(became, Became::Refused(_) | Became::Nobody | Became::Lost)
 }
 
+// One press, or several.
+fn presses_word(count: u64) -> &'static str {
+    if count == 1 { "press" } else { "presses" }
+}
+
 // The press, once it was said that it is open.
 fn told(pending: Pending) -> Pending {
     let Pending {
@@ -145,13 +150,15 @@ impl<R: Files<File = File> + Net + Clock + AllocGlobal> Panel<'_, R> {
     {
         if self.waited > 0 && self.hand.settling.is_over() {
             let waited = mem::replace(&mut self.waited, 0);
+            let presses = presses_word(waited);
             self.line(format_args!(
-                "{waited} presses waited in the device, nobody knows how long: dropped"
+                "{waited} {presses} waited in the device, nobody knows how long: dropped"
             ))?;
         }
         if self.flooded > 0 && self.floods.is_due(self.hand.at) {
             let flooded = mem::replace(&mut self.flooded, 0);
-            self.line(format_args!("{flooded} presses more at once than fingers: dropped"))?;
+            let presses = presses_word(flooded);
+            self.line(format_args!("{flooded} {presses} more at once than fingers: dropped"))?;
         }
         Ok(())
     }

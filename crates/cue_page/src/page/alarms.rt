@@ -6,7 +6,7 @@ pub(super) const ALARMS: &str = r#"
 let spoken = "";
 
 function endWords(told) {
-  const failed = failedWords(told.failed, told.outcome === "failed");
+  const failed = failedWords(told.failed, told.outcome === "failed", told.attempt);
   const without = told.excused.length ? " without device " + devicesWords(told.excused) : "";
   return cueWords(told) + ": " + told.outcome + (told.reason ? ": " + told.reason : "") + failed + without;
 }
@@ -20,7 +20,8 @@ function faultWords(attempt) {
   const fault = attempt.reason ? lostWords(attempt) : " fails", waits = waitedFor(attempt);
   const owes = attempt.stage === "given up" ? "; has not let go: device " : "; still waiting for device ";
   const rest = waits.length ? owes + devicesWords(waits) : "", isGiven = attempt.stage === "given";
-  return cueWords(attempt) + fault + failedWords(failed, isGiven) + (isUnknown(failed, isGiven) ? UNKNOWN : "") + rest;
+  const did = failedWords(failed, isGiven, attempt.attempt) + (isUnknown(failed, isGiven) ? UNKNOWN : "");
+  return cueWords(attempt) + fault + did + rest;
 }
 
 // What may move by itself once what is missing is back: a cue that was given waits for it. Some of it may have moved
@@ -42,7 +43,8 @@ function owedWords(kind, isOf) {
 
 // What went wrong in a cue that has ended.
 function failureWords(told) {
-  if (told.outcome === "cancelled") return cueWords(told) + lostWords(told) + failedWords(told.failed, false);
+  if (told.outcome === "cancelled") return cueWords(told) + lostWords(told)
+    + failedWords(told.failed, false, told.attempt);
   return endWords(told) + (isUnknown(told.failed, told.outcome === "failed") ? UNKNOWN : "");
 }
 
@@ -57,17 +59,31 @@ function alarmWords(alarm) {
   return alarm.words + (BACK[alarm.kind] ? owedWords(alarm.kind, () => true) : "");
 }
 
+// That a device stands still is said in this browser, and sent to nobody.
+function stillButton(device) {
+  const made = make("button");
+  dress(made, false, "It stands still", "Device " + called(device, deviceName(device)) + " stands still");
+  made.id = "still-" + device;
+  made.type = "button";
+  made.addEventListener("click", () => standsStill(device));
+  return made;
+}
+
 function alarmLine(alarm, index) {
   const line = make("div", index ? "alarm" : "alarm loudest"), words = make("span", "", alarmWords(alarm));
   words.id = "alarm-" + index;
   line.append(words);
   const lit = alarm.kind === "failed" && litOf("seen", (one) => one.attempt === alarm.of);
   if (lit) line.append(button("seen-" + alarm.of, "Seen", "The failure of attempt " + alarm.of + " was seen", lit));
+  if (alarm.kind === "moving" && !isHeld()) line.append(stillButton(alarm.of));
   return line;
 }
 
 const DESK = { kind: "desk", of: 0, words: "The desk does not answer: nothing here is of now." };
-const alarmsNow = () => isDark() ? [DESK] : [...view.alarms, ...movingAlarms()];
+// What failed is over; what may still move stands before it, and stays in sight also while the desk does not answer.
+const isPast = (alarm) => ["failed", "device"].includes(alarm.kind);
+const alarmsNow = () => isDark() ? [DESK, ...(view ? movingAlarms() : [])]
+  : [...view.alarms.filter((one) => !isPast(one)), ...movingAlarms(), ...view.alarms.filter(isPast)];
 
 function showAlarms() {
   const all = alarmsNow();
@@ -92,10 +108,13 @@ function showEnds() {
     JSON.stringify([view.past, movingNow(), renamed]));
 }
 
+// Without the seconds, which change with each view.
+const steady = (words) => words.replace(/:? [^:]*\d\.\d s.*$/, "");
+
 // What a screen reader is told when it changes: what is wrong, and how far each cue is.
 function showSpoken() {
   const cues = view.live.map((attempt) => "Cue " + attempt.cue + " " + stageWords(attempt));
-  const wrong = alarmsNow().map((alarm) => alarmWords(alarm).replace(/:? [^:]*\d\.\d s.*$/, ""));
+  const wrong = alarmsNow().map((alarm) => alarmWords({ ...alarm, words: steady(alarm.words) }));
   const words = [...wrong, ...cues].join(". ") || "Nothing is stood by";
   if (words !== spoken) { spoken = words; at("spoken").textContent = words; }
 }

@@ -12,9 +12,10 @@ function showLit() {
   callOut();
 }
 
-// Draws the newest view.
+// Draws the newest view, and notes whether that was of a desk that answers.
 function draw() {
   if (!view) return;
+  wasDark = isDark();
   showManner();
   showStack();
   showLive();

@@ -4,7 +4,7 @@
 /// The text of a `script`.
 pub(super) const LINES: &str = r#"
 "use strict";
-const NOTED = 6000, TAP = 1000, NO_PRESS = { press: "", at: -Infinity };
+const NOTED = 6000, TAP = 1000, BRIEF = 1000, PASSED = 3000, NO_PRESS = { press: "", at: -Infinity };
 let note = { draw: () => ["", ""], until: 0, said: "", holds: () => true }, lastGo = NO_PRESS, lastStandby = NO_PRESS;
 
 // The last press that was sent, and what became of it, as far as the line goes.
@@ -19,10 +19,20 @@ function say(words, kind, millis, holds) {
 // Two reasons are the same if they differ in numbers alone, as in how long something has lasted.
 const isSame = (why, other) => why.replace(/[0-9.]+/g, "") === other.replace(/[0-9.]+/g, "");
 
-// Why a button is dark that was pressed, in the words of now, as long as it is that reason.
+// Why a button is dark that was pressed, in the words of now, as long as it is that reason. A reason that is over
+// within a second was hardly seen: so the line then says that the press did nothing.
 function sayDark(id) {
-  const why = whyDark(id), draw = () => [id.toUpperCase() + " is not lit: " + whyDark(id), "refused"];
-  note = { draw, until: now() + NOTED, said: saidNow(), holds: () => !keyOf(id) && isSame(whyDark(id), why) };
+  const name = id.toUpperCase(), why = whyDark(id), begun = now();
+  let ended = null;
+  const isSo = () => !keyOf(id) && isSame(whyDark(id), why);
+  const draw = () => [isSo() ? name + " is not lit: " + whyDark(id)
+    : name + " was dark when it was pressed, and did nothing: look, and press again", "refused"];
+  const holds = () => {
+    if (isSo()) return true;
+    if (ended === null) ended = now();
+    return ended - begun < BRIEF && now() - ended < PASSED;
+  };
+  note = { draw, until: now() + NOTED, said: saidNow(), holds };
   showWords();
 }
 
@@ -95,9 +105,17 @@ function beforeWords() {
   return isTold ? "; before it, " + before.press + ": " + before.words : "";
 }
 
+// What became of the last press. That a STANDBY was made is said while its cue is seen to stand by.
+function pressLine(said) {
+  const isUnseen = said.kind === "made" && said.press.startsWith("standby ")
+    && (isDark() || view.alarms.some((alarm) => alarm.kind === "old"));
+  const words = isUnseen ? "it was made; whether the cue still stands by cannot be seen" : said.words;
+  return [pressWords(said.press) + ": " + words + beforeWords(), isUnseen ? "over" : said.kind];
+}
+
 function showWords() {
-  const said = view && view.said, noted = noteNow();
-  at("words").className = noted ? noted[1] : said ? said.kind : "";
-  write("words", noted ? noted[0] : said ? pressWords(said.press) + ": " + said.words + beforeWords() : KEYS);
+  const said = view && view.said, [words, kind] = noteNow() || (said ? pressLine(said) : [KEYS, ""]);
+  at("words").className = kind;
+  write("words", words);
 }
 "#;

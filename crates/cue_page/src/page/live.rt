@@ -12,13 +12,19 @@ const isGo = (attempt, kind) => [view.said, view.before].some((press) => press &
   && press.press === "go " + attempt.cue + " " + attempt.attempt);
 // A GO that is open may be given although none can be pressed.
 const isGoing = (attempt) => isGo(attempt, "open");
-const heldWords = (attempt) => isGoing(attempt) ? "held, GO may still be given"
+// Nobody has the port: what was sent there is carried out no more.
+const isAlone = () => view.alarms.some((alarm) => alarm.words.startsWith("nobody listens"));
+const heldWords = (attempt) => isGoing(attempt) && !isAlone() ? "held, GO may still be given"
   : isGo(attempt, "said") ? "held, serve says that GO was given" : STAGES.held;
 const unseenWords = (attempt) => STAGES.unseen + (isGoing(attempt) ? "; a GO is open" : "");
-const stageWords = (attempt) => attempt.stage === "held" ? heldWords(attempt)
-  : attempt.stage === "unseen" ? unseenWords(attempt)
+// While the desk does not answer nobody knows how far a cue has come that prepared.
+const PREPARES = ["ready", "held", "preparing", "over"];
+const stageNow = (attempt) => isDark() && PREPARES.includes(attempt.stage) ? "unseen" : attempt.stage;
+const stageWords = (attempt) => stageNow(attempt) === "held" ? heldWords(attempt)
+  : stageNow(attempt) === "ready" && isGoing(attempt) ? "ready, GO is pressed"
+  : stageNow(attempt) === "unseen" ? unseenWords(attempt)
   : STAGES[attempt.stage] + (attempt.reason ? ": " + attempt.reason : "");
-const isOpen = (attempt) => ["ready", "held", "preparing", "over"].includes(attempt.stage);
+const isOpen = (attempt) => PREPARES.includes(stageNow(attempt));
 const waitedFor = (attempt) => attempt.devices.filter((one) => one.answer === "waiting").map((one) => one.device);
 const contactOf = (device) => view.network.find((one) => one.device === device);
 
@@ -95,7 +101,7 @@ function titleOf(attempt) {
 
 function attemptCard(attempt) {
   const fails = attempt.devices.some((device) => device.answer === "failed");
-  const card = make("article", "attempt " + (attempt.stage === "ready" ? "ready" : fails ? "failed" : ""));
+  const card = make("article", "attempt " + (stageNow(attempt) === "ready" ? "ready" : fails ? "failed" : ""));
   if (view.chosen === attempt.attempt) card.classList.add("chosen");
   card.setAttribute("aria-label", "Cue " + attempt.cue + ", " + stageWords(attempt));
   const waits = waitedFor(attempt);

@@ -4,7 +4,7 @@
 /// The text of the last `script`.
 pub(super) const PRESSING: &str = r#"
 "use strict";
-const POLL = 100, LOCKED = 423, CLOSED = 429;
+const POLL = 100, LOCKED = 423, CLOSED = 429, OPEN_FOR = 12000;
 const token = document.querySelector("meta[name=cuedesk-token]").content;
 let namesText = "";
 
@@ -18,19 +18,56 @@ function takeNames(told) {
     devices: new Map(told.devices.map((one) => [one.device, one.name])) };
 }
 
-// A view that came: an older one than that which is drawn is never drawn, and one of another run loads the page again.
-function take(told) {
-  if (run !== null && told.run !== run) { location.reload(); return; }
+// Loads the page again, since the desk was started again. It does not know of a press that was open: this window does.
+const OPEN = "cuedesk-open";
+function loadAgain() {
+  try {
+    if (view && view.said && view.said.kind === "open") sessionStorage.setItem(OPEN, view.said.press);
+  } catch (error) { /* nothing is kept */ }
+  location.reload();
+}
+
+// The view shows what became of the press: its cue stands by, is given or given up, or has ended.
+function isPressShown(press) {
+  const [verb, cue, number] = press.split(" ");
+  if (!view || isDark()) return false;
+  if (verb === "standby") return view.live.some((one) => one.cue === cue);
+  if (verb === "goto") return view.next.cue === cue;
+  if (verb === "release")
+    return !view.live.some((one) => one.attempt === Number(cue) && waitedFor(one).includes(Number(number)));
+  return !view.live.some((one) => one.attempt === Number(number) && isOpen(one));
+}
+
+function recallOpen() {
+  try {
+    const press = sessionStorage.getItem(OPEN);
+    sessionStorage.removeItem(OPEN);
+    if (press) say(press + " was open when the desk was started again: the store will show whether it is carried out",
+      "open", OPEN_FOR, () => !isPressShown(press));
+  } catch (error) { /* nothing was kept */ }
+}
+
+// What this window knew before it was loaded.
+function recallAll() {
+  recallOwn();
+  recallMoving();
+  recallOpen();
+}
+
+// A view that came, and when it was asked: nothing that it shows is younger. An older one than that which is drawn is
+// never drawn, and one of another run loads the page again.
+function take(told, asked) {
+  if (run !== null && told.run !== run) { loadAgain(); return; }
   const isFirst = run === null;
   run = told.run;
-  if (isFirst) recallOwn();
+  manner = { locked: told.locked, readonly: told.readonly, told: told.told };
+  if (isFirst) recallAll();
   if (view && told.view.number <= view.number) return;
   view = told.view;
-  heard = now();
+  heard = asked;
   followChoice();
   followMoving();
   followBefore();
-  manner = { locked: told.locked, readonly: told.readonly, told: told.told };
   takeNames(told.names);
   if (now() > sure.until) sure = { press: "", until: 0 };
   draw();
@@ -38,7 +75,7 @@ function take(told) {
 
 // What an answer says that carries nothing out.
 async function refused(press, reply) {
-  if (reply.status === 403) { location.reload(); return; }
+  if (reply.status === 403) { loadAgain(); return; }
   const told = await reply.json();
   notGiven(press, told.words);
   if (reply.status === LOCKED) askWord(press, told.words + ". " + press + " wants it:");
@@ -66,11 +103,11 @@ async function send(press) {
   lastStandby = press.startsWith("standby ") ? { press, at: now() } : NO_PRESS;
   expectOwn(press);
   try {
-    const headers = { "Cuedesk-Token": token, ...(text === undefined ? {} : { "Cuedesk-Word": text }) };
+    const asked = now(), headers = { "Cuedesk-Token": token, ...(text === undefined ? {} : { "Cuedesk-Word": text }) };
     const reply = await fetch("/command", { method: "POST", headers, body: view.number + " " + press });
     if (!reply.ok) { await refused(press, reply); return; }
     const told = await reply.json();
-    take(told);
+    take(told, asked);
     unsent(press, told);
   } catch (error) {
     notGiven(press, "the desk does not answer; look at what is shown before you press again");
@@ -132,11 +169,11 @@ document.addEventListener("keydown", (event) => {
 
 // Asks for the newest view. If nobody listens the page grows dark, and says so.
 async function read() {
-  const stop = new AbortController(), timer = setTimeout(() => stop.abort(), DARK);
+  const stop = new AbortController(), timer = setTimeout(() => stop.abort(), DARK), asked = now();
   try {
     const reply = await fetch("/board.json", { cache: "no-store", signal: stop.signal });
     missed = 0;
-    if (reply.ok) take(await reply.json());
+    if (reply.ok) take(await reply.json(), asked);
   } catch (error) { missed += 1; }
   clearTimeout(timer);
 }
@@ -146,10 +183,8 @@ async function poll() {
   setTimeout(poll, POLL);
 }
 
-let wasDark = true;
 setInterval(() => {
   if (view && (isDark() !== wasDark || (sure.press && now() > sure.until))) {
-    wasDark = isDark();
     if (now() > sure.until) sure = { press: "", until: 0 };
     draw();
   } else showLit();

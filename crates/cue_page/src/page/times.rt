@@ -23,7 +23,7 @@ function showHeard(cell, contact) {
 
 // The relay writes ten times a second. What it wrote of a device before that device answered is not of now.
 const isPassed = (contact, answer) => contact !== undefined
-  && ((answer === "ready" && contact.heard.startsWith("STANDBY sent"))
+  && ((answer === "ready" && contact.heard.includes("STANDBY sent"))
   || (answer === "done" && contact.heard.includes(" sent, ")));
 const contactBeside = (one) => isPassed(contactOf(one.device), one.answer) ? undefined : contactOf(one.device);
 

@@ -1,4 +1,4 @@
-use Rattle.cue_board.proofs.ColumnLemmas.{are_fit_append}
+use Rattle.cue_columns.proofs.ColumnLemmas.{are_fit_append}
 use Rattle.cue_board.proofs.board.drawn.Goals as goal
 
 pub returns-clause-fit : goal.returns-clause-fit

@@ -1,6 +1,6 @@
 use Rattle.std.proofs.Common.{◌≡◌, map, string_bytes, take}
 use Rattle.cue_board.specs.Board.{text_of}
-use Rattle.cue_board.specs.Columns.{AreFit}
+use Rattle.cue_columns.specs.Columns.{AreFit}
 use Rattle.cue_board.proofs.line.texts.Given as goal
 
 -- the lines so far were put there, and each fits

@@ -1,4 +1,4 @@
-use Rattle.cue_board.specs.Columns.{AreFit}
+use Rattle.cue_columns.specs.Columns.{AreFit}
 use Rattle.cue_board.proofs.log.log_lines.Given as goal
 
 -- the lines so far fit

@@ -1,6 +1,6 @@
 use denote.Shadow.{shadow}
 use denote.Text.{Utf8}
-use Rattle.cue_board.specs.Columns.{AreFit}
+use Rattle.cue_columns.specs.Columns.{AreFit}
 use Rattle.cue_board.proofs.log.push_wrapped.Given as goal
 
 -- the lines so far fit

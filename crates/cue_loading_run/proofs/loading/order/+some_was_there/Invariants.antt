@@ -1,5 +1,0 @@
-use Rattle.std.proofs.Common.{length}
-use Rattle.cue_loading_run.proofs.loading.order.+some_was_there.Given as goal
-
-abbrev pub decreases-some_was_there : goal.decreases-some_was_there
-decreases-some_was_there l = length l.answers.now

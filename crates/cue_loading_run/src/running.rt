@@ -1,0 +1,132 @@
+//! The lives of machines, at sockets that are connected to the controller's port.
+use crate::loading::Loading;
+use crate::posting::LoadPost;
+use crate::progress::Progress;
+use cue_ask_machine::home;
+use cue_desk::ending::Ending;
+use cue_edge_run::{NetEars, SocketPost, connected};
+use cue_load_machine::{LoadMachine, SOCKETS, advance};
+use cue_machine::{Room, Why};
+use cue_saying::say;
+use mio::net::UdpSocket;
+use std::alloc::{AllocError, Global};
+use std::fs::{File, Files};
+use std::io::{self, Eprint, Write};
+use std::net::Net;
+use std::time::Clock;
+
+/// The most bytes of a datagram that are read. The longest datagram has fewer, so one that is too long is seen to be
+/// so.
+const MAX_RECEIVED: usize = 4_100;
+
+/// For how many bytes of an output there is room at first.
+const BYTES: usize = 4_096;
+
+// Room for the turns of a load, each of which has one output at most.
+fn room(alloc: Global) -> Result<Room, AllocError> {
+    Room::new(alloc, MAX_RECEIVED, 1, BYTES)
+}
+
+// All sockets of a load, connected to the controller at this port.
+fn connect_all<R: Net + AllocGlobal>(rt: &R, port: u16) -> io::Result<Vec<UdpSocket>> {
+    let mut sockets = Vec::with_capacity(rt.alloc(), SOCKETS)?;
+    for _ in 0..SOCKETS {
+        let mut one = connected(rt, home(port))?;
+        if let Some(socket) = one.pop() {
+            sockets.push(socket)?;
+        }
+    }
+    Ok(sockets)
+}
+
+// The same; if there are none, why is on standard error.
+fn open_sockets<R: Net + Eprint + AllocGlobal>(
+    rt: &R,
+    port: u16,
+) -> Result<Vec<UdpSocket>, Ending> {
+    match connect_all(rt, port) {
+        Ok(sockets) => Ok(sockets),
+        Err(why) => {
+            say(rt, format_args!("no socket: {why}"));
+            Err(Ending::Failed)
+        }
+    }
+}
+
+// How a life ended, unless the machine is over.
+fn ended_by(why: Why) -> Result<(), Ending> {
+    match why {
+        Why::Over => Ok(()),
+        Why::Turns | Why::End | Why::Ears | Why::Memory => Err(Ending::Failed),
+    }
+}
+
+impl<'a, R: Net + Clock + Eprint + AllocGlobal> Loading<'a, R> {
+    // Lets a machine live at these sockets that writes no copy, until it is over.
+    fn ask_at(&self, machine: &mut LoadMachine, sockets: &mut [UdpSocket]) -> Result<(), Ending> {
+        let Ok(mut ears) = NetEars::steady(self.rt, self.rt, sockets) else {
+            return Err(Ending::Failed);
+        };
+        let mut post = SocketPost::new(ears.sockets());
+        let mut room = room(self.alloc())?;
+        let ended = advance(machine, &mut ears, &mut post, &mut room, u64::MAX);
+        ended_by(ended.why)
+    }
+
+    /// Lets a machine live that writes no copy, until it is over.
+    pub fn ask(&self, machine: &mut LoadMachine) -> Result<(), Ending> {
+        let mut sockets = open_sockets(self.rt, self.port)?;
+        let asked = self.ask_at(machine, &mut sockets);
+        drop(sockets);
+        asked
+    }
+}
+
+impl<'a, R: Files<File = File> + Net + Clock + Eprint + AllocGlobal> Loading<'a, R> {
+    // Says what became of the copy, if it went out in this turn, and shows how far the machine has come.
+    fn tell_turn<W: Write>(
+        &self,
+        machine: &LoadMachine,
+        post: &mut LoadPost<'_, R>,
+        progress: &mut Progress<'_, W>,
+    ) -> Result<(), Ending> {
+        if let Some(kept) = post.take_kept() {
+            self.tell_kept(&kept, progress)?;
+        }
+        progress.reach(machine)
+    }
+
+    // Lets a machine live at these sockets, until it is over. It is told on the way what it has done.
+    fn carry_out_at<W: Write>(
+        &self,
+        machine: &mut LoadMachine,
+        sockets: &mut [UdpSocket],
+        progress: &mut Progress<'_, W>,
+    ) -> Result<(), Ending> {
+        let Ok(mut ears) = NetEars::steady(self.rt, self.rt, sockets) else {
+            return Err(Ending::Failed);
+        };
+        let mut post = LoadPost::new(self.rt, self.what.path, ears.sockets());
+        let mut room = room(self.alloc())?;
+        for _ in 0..u64::MAX {
+            let ended = advance(machine, &mut ears, &mut post, &mut room, 1);
+            self.tell_turn(machine, &mut post, progress)?;
+            if ended.why != Why::Turns {
+                return ended_by(ended.why);
+            }
+        }
+        Err(Ending::Failed)
+    }
+
+    /// Lets a machine live until it is over. It is told on the way what it has done.
+    pub fn carry_out<W: Write>(
+        &self,
+        machine: &mut LoadMachine,
+        progress: &mut Progress<'_, W>,
+    ) -> Result<(), Ending> {
+        let mut sockets = open_sockets(self.rt, self.port)?;
+        let carried = self.carry_out_at(machine, &mut sockets, progress);
+        drop(sockets);
+        carried
+    }
+}

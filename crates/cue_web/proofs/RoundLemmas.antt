@@ -1,0 +1,101 @@
+-- A round over the connections.
+use Rattle.std.proofs.Common.{◌≡◌, ◌∙◌, refl, sym, ap, subst, ℕ, ◌+◌, ◌<◌, ◌≤◌, List, [], ◌∷◌, ◌++◌, length, map, drop, set}
+use Rattle.std.proofs.Common.{get_or, filter}
+use Rattle.std.proofs.lemmas.List.{append-nil, append_assoc, drop_all, drop_more, get_or_at, length-append, length-map}
+use Rattle.std.proofs.lemmas.List.{map-append, set_at}
+use Rattle.cue_desk_run.proofs.WorkLemmas.{looks_none}
+use Rattle.cue_request.specs.declared.identity.PageIdentity.{PageIdentity}
+use Rattle.cue_request.specs.declared.lock.Guard.{Guard}
+use Rattle.cue_station.specs.declared.station.Station.{Station}
+use Rattle.cue_view.specs.declared.view.View.{View}
+use Rattle.cue_web.specs.declared.connection.Connection.{Connection}
+use Rattle.cue_web.proofs.ServeLemmas.{served_one, served_then}
+use Rattle.cue_web.specs.Serving.{AsksOnce, HasRound, OnlyAsked, OnlyServed, Serves, ServesEach, Serving, is_here}
+
+-- Of the connections that were here the first so many were served; the others stand as they stood.
+pub record ServesFirst (page page_then : PageIdentity) (were are : List Connection) (n : ℕ) (old new : Station) : Type 0
+  where
+    pub servings : List Serving
+    pub count : length servings ≡ n
+    pub each : were ≡ map (λ (s : Serving). s.before) servings ++ drop n were
+    pub left : are ≡ map (λ (s : Serving). s.after) servings ++ drop n were
+    pub heard : OnlyServed page servings old new
+    pub identity : page_then ≡ page
+
+-- none was served yet
+pub first_none : (page : PageIdentity) (were : List Connection) (s : Station) → ServesFirst page page were were 0 s s
+first_none page were s =
+    record { servings = []; count = refl; each = refl; left = refl; heard = looks_none s; identity = refl }
+
+-- the next is served
+pub first_more : (page mid_page page_then : PageIdentity) (g : Guard) (now : ℕ) (were are : List Connection) (i : ℕ)
+    (d c_then : Connection) (old mid new : Station) (v v_then : View) → i < length were
+    → ServesFirst page mid_page were are i old mid
+    → Serves mid_page g now (get_or are i d) c_then mid new v v_then → AsksOnce (get_or are i d).stage c_then.stage
+    → page_then ≡ mid_page
+    → ServesFirst page page_then were (set are i c_then) (i + 1) old new
+first_more page mid_page page_then g now were are i d c_then old mid new v v_then within past serves once same =
+    let c : Connection = get_or are i d in
+    let s : Serving = record {
+      at = now;
+      guard = g;
+      before = c;
+      after = c_then;
+      old = mid;
+      new = new;
+      view = v;
+      view_then = v_then;
+    } in
+    let next : Connection = get_or were i d in
+    let rest : List Connection = drop (i + 1) were in
+    let front : List Connection = map (λ (s : Serving). s.before) past.servings in
+    let back : List Connection = map (λ (s : Serving). s.after) past.servings in
+    let long : length back ≡ i = length-map past.servings (λ (s : Serving). s.after) ∙ past.count in
+    let parts : are ≡ back ++ next ∷ rest = past.left ∙ ap (λ l. back ++ l) (drop_more were i d within) in
+    let is : c ≡ next = ap (λ l. get_or l i d) parts ∙ get_or_at back next rest d i long in
+    record {
+      servings = past.servings ++ s ∷ [];
+      count = length-append past.servings (s ∷ []) ∙ ap (λ n. n + 1) past.count;
+      each = past.each ∙ ap (λ l. front ++ l) (drop_more were i d within) ∙ ap (λ x. front ++ x ∷ rest) (sym is)
+          ∙ sym (append_assoc front (c ∷ []) rest)
+          ∙ ap (λ l. l ++ rest) (sym (map-append (λ (s : Serving). s.before) past.servings (s ∷ [])));
+      left = ap (λ l. set l i c_then) parts ∙ set_at back next rest c_then i long
+          ∙ sym (append_assoc back (c_then ∷ []) rest)
+          ∙ ap (λ l. l ++ rest) (sym (map-append (λ (s : Serving). s.after) past.servings (s ∷ [])));
+      heard = served_then page past.servings (s ∷ []) old mid new past.heard
+          (served_one page s (record {
+            serves = subst (λ (i : PageIdentity). Serves i g now c c_then mid new v v_then) past.identity serves;
+            once = once;
+          }));
+      identity = same ∙ past.identity;
+    }
+
+-- all were served
+pub first_all : (page page_then : PageIdentity) (were are : List Connection) (n : ℕ) (old new : Station)
+    → length were ≤ n → ServesFirst page page_then were are n old new → ServesEach page page_then were are old new
+first_all page page_then were are n old new long past =
+    let none : drop n were ≡ [] = drop_all n were long in
+    let each : were ≡ map (λ (s : Serving). s.before) past.servings =
+    past.each ∙ ap (λ l. map (λ (s : Serving). s.before) past.servings ++ l) none ∙ append-nil _ in
+    let left : are ≡ map (λ (s : Serving). s.after) past.servings =
+    past.left ∙ ap (λ l. map (λ (s : Serving). s.after) past.servings ++ l) none ∙ append-nil _ in
+    record {
+      servings = past.servings;
+      each = sym each;
+      leaves = sym left;
+      heard = past.heard;
+      identity = past.identity;
+    }
+
+-- those that are still there stay
+pub has_round : (page page_then : PageIdentity) (here left here_then : List Connection) (old new : Station)
+    → ServesEach page page_then here left old new → here_then ≡ filter is_here left
+    → HasRound page page_then here here_then old new
+has_round page page_then here left here_then old new served stay =
+    record { left = left; served = served; stay = stay }
+
+-- so nothing else was heard
+pub round_asked : (page page_then : PageIdentity) (here left : List Connection) (old new : Station)
+    → ServesEach page page_then here left old new → OnlyAsked page page_then old new
+round_asked page page_then here left old new served =
+    record { servings = served.servings; heard = served.heard; identity = served.identity }

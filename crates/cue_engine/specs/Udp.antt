@@ -69,6 +69,18 @@ abbrev pub LooksAfterTicks : (last : ℕ) → Option Waiting → Type 0
 LooksAfterTicks last (Some waiting) = is_tick_due last waiting.now ≡ false
 LooksAfterTicks last None = Unit {0}
 
+-- A turn comes at the moment that the clock showed after all that was heard for it; `shown` is what the clock showed, if
+-- nothing was heard since. So no datagram has a moment of before it came.
+abbrev pub ComesNow : (shown : Option ℕ) → Turn → Type 0
+ComesNow shown (turn.Datagram now from n) = shown ≡ Some now
+ComesNow shown (turn.Tick now) = shown ≡ Some now
+ComesNow shown turn.End = Unit {0}
+
+-- the same of a datagram that a look found
+abbrev pub IsFoundNow : (shown : Option ℕ) → Option Waiting → Type 0
+IsFoundNow shown (Some waiting) = shown ≡ Some waiting.now
+IsFoundNow shown None = Unit {0}
+
 -- a datagram that is held: the port that it is from, and its bytes
 abbrev pub holds : Option ℕ → List ℕ → Option (ℕ × List ℕ)
 holds None bytes = None

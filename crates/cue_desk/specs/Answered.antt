@@ -1,5 +1,6 @@
 -- What a reply of the controller says of the command that was asked.
-use Rattle.std.specs.Prelude.{◌≡◌, ◌⊎◌, ◌==◌, if◌then◌else◌, pos, negsuc, ◌<ℤ◌, ◌≤ℤ◌, ℤ, Option, Some, None}
+use Rattle.std.specs.Prelude.{◌≡◌, ◌⊎◌, ◌==◌, ◌&&◌, if◌then◌else◌, pos, negsuc, ◌<ℤ◌, ◌≤ℤ◌, ℕ, ℤ, Bool, Option, Some, None}
+use Rattle.std.specs.Ordering.{int_eq}
 use Rattle.cue_core.specs.Codes.{code_number}
 use Rattle.cue_core.specs.declared.command.Code.TheVariants.{NoMethod}
 use Rattle.cue_desk.specs.declared.answered.Answered.{Answered}
@@ -17,6 +18,10 @@ Tells (replied.Reply made known refused code) answered.Known = (refused ≤ℤ p
 Tells (replied.Status status) (answered.Refused told) = ⊥
 Tells (replied.Status status) answered.Made = ⊥
 Tells (replied.Status status) answered.Known = Unit {0}
+
+-- the three numbers of a reply are these
+abbrev pub counts : (made known refused : ℤ) → (m k r : ℕ) → Bool
+counts made known refused m k r = int_eq made (pos m) && (int_eq known (pos k) && int_eq refused (pos r))
 
 -- exactly one command was made, was known or was refused
 abbrev pub IsOfOne : Replied → Type 0

@@ -2,7 +2,6 @@ pub mod Answered
 pub mod Asks
 pub mod Board
 pub mod Endings
-pub mod Hearing
 pub mod Lines
 pub mod Loading
 pub mod Orders

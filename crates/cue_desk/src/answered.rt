@@ -1,6 +1,7 @@
 //! What became of one thing that was asked, as the controller's reply says.
-ghost use Rattle.std.specs.Prelude.{◌≡◌, ◌++◌, ◌∷◌, [], None, IfSome, OnOk};
-ghost use Rattle.cue_desk.specs.Answered.{IsOfOne, Tells, ending_of, refusal_of_removal};
+ghost use Rattle.std.specs.Prelude.{◌≡◌, ◌++◌, ◌∷◌, [], None, IfSome, OnOk, pos};
+ghost use Rattle.std.specs.Ordering.{int_eq};
+ghost use Rattle.cue_desk.specs.Answered.{IsOfOne, Tells, counts, ending_of, refusal_of_removal};
 
 use crate::ending::Ending;
 use crate::replying::Replied;
@@ -40,6 +41,20 @@ impl Answered {
             Replied::Status(_) => Answered::Known,
         }
     }
+}
+
+// Whether a number of a reply is this one.
+fn is_count(said: i32, count: u8) -> bool
+    ensures { result ≡ int_eq said (pos count) }
+{
+    said == i32::from(count)
+}
+
+/// Whether the three numbers of a reply are these: so many were made, known and refused.
+pub fn are_counts(made: i32, known: i32, refused: i32, m: u8, k: u8, r: u8) -> bool
+    ensures { result ≡ counts made known refused m k r }
+{
+    is_count(made, m) && (is_count(known, k) && is_count(refused, r))
 }
 
 /// What a reply says of the one command that was asked; none if it does not speak of exactly one.

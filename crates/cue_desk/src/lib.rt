@@ -2,10 +2,10 @@
 //! socket.
 //!
 //! `asking`: each thing that the desk asks is one message; `Asked` names it, `datagram` gives its bytes, and bundles
-//! ask for several entries of a show file by one datagram. `replying`, `hearing`: the reply to what was asked, or the
-//! status, and what it means that nothing came. `answered`, `ending`: what a reply says of one command, and how a
-//! command ends that is not done. `line`, `orders`: the command line. `stamps`: whether what was read of a store is
-//! what its files hold now. Each is a table in `specs/`; that a checked show file is taken whole is a law.
+//! ask for several entries of a show file by one datagram. `replying`: the reply to what was asked, or the status.
+//! `answered`, `ending`: what a reply says of one command, and how a command ends that is not done. `line`, `orders`:
+//! the command line. `stamps`: whether what was read of a store is what its files hold now. Each is a table in `specs/`;
+//! that a checked show file is taken whole is a law.
 //!
 //! Why it is so:
 //! - Every cue is added by `/show/mixed`, also if all its parts are required: one message for each thing that is asked.
@@ -33,7 +33,6 @@ pub mod answered;
 pub mod asking;
 pub mod counting;
 pub mod ending;
-pub mod hearing;
 pub mod laws;
 pub mod line;
 pub mod orders;

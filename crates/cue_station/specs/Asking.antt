@@ -1,16 +1,16 @@
 -- What became of the presses that were sent.
-use Rattle.std.specs.Prelude.{ℕ, ℤ, ◌+◌, pos, Bool, true, false, not, ◌&&◌, ◌||◌, if◌then◌else◌, List, [], ◌∷◌, ◌++◌}
+use Rattle.std.specs.Prelude.{ℕ, ℤ, ◌+◌, Bool, true, false, not, ◌&&◌, ◌||◌, if◌then◌else◌, List, [], ◌∷◌, ◌++◌}
 use Rattle.std.specs.Prelude.{map}
 use Rattle.std.specs.Prelude.{Option, None, Some, is_some, is_none, nat_eq, nat_le, nat_lt}
 use Rattle.std.specs.List.{list_any, list_all}
 use Rattle.std.specs.Option.{option_eq, option_map, option_map_or}
-use Rattle.std.specs.Ordering.{int_eq}
 use Rattle.cue_show.specs.Number.{same_text}
 use Rattle.cue_exchange.specs.Answers.{answer_passes, is_cancelling, is_decided, is_preparing, is_waiting}
 use Rattle.cue_exchange.specs.Steps.{holds}
 use Rattle.cue_exchange.specs.Live.{attempt_of, attempt_of_cue}
 use Rattle.cue_exchange.specs.declared.attempt.Attempt.{Attempt}
 use Rattle.cue_core.specs.Events.{is_start_of, is_go_of, is_cancel_of}
+use Rattle.cue_desk.specs.Answered.{counts}
 use Rattle.cue_desk.specs.declared.replying.Replied.{Replied}
 use Rattle.cue_desk.specs.declared.replying.Replied.TheVariants as replied
 use Rattle.cue_view.specs.declared.button.Button.{Button}
@@ -36,10 +36,6 @@ is_press_sent None = false
 is_press_sent (Some s) = not (is_status s.order)
 
 -- ---- what came to its socket
-
--- the three numbers of a reply
-abbrev pub counts : ℤ → ℤ → ℤ → ℕ → ℕ → ℕ → Bool
-counts made known refused m k r = int_eq made (pos m) && (int_eq known (pos k) && int_eq refused (pos r))
 
 -- what the reply to one press says: its numbers are 0 or 1. Made and refused are both 1 if only some of several cues
 -- were stood by; none if it speaks of nothing

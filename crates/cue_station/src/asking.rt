@@ -1,6 +1,5 @@
 //! What became of the presses that were sent.
-ghost use Rattle.std.specs.Prelude.{◌≡◌, is_some, pos};
-ghost use Rattle.std.specs.Ordering.{int_eq};
+ghost use Rattle.std.specs.Prelude.{◌≡◌, is_some};
 ghost use Rattle.std.specs.List.{list_any};
 ghost use Rattle.std.specs.Option.{option_map};
 ghost use Rattle.cue_core.specs.Events as happening;
@@ -13,24 +12,11 @@ use crate::evidence::is_shown_by;
 use crate::heard::{Copied, Heard};
 use crate::memory::{Answered, Pending, Reading, Word};
 use cue_core::{Event, State};
+use cue_desk::answered::are_counts;
 use cue_desk::replying::Replied;
 use cue_show::CueNo;
 use cue_view::button::Button;
 use cue_view::view::Became;
-
-// Whether a number of a reply is this one.
-fn is_count(told: i32, count: u8) -> bool
-    ensures { result ≡ int_eq told (pos count) }
-{
-    told == i32::from(count)
-}
-
-// Whether the three numbers of a reply are these.
-fn are_counts(made: i32, known: i32, refused: i32, m: u8, k: u8, r: u8) -> bool
-    ensures { result ≡ asking.counts made known refused m k r }
-{
-    is_count(made, m) && (is_count(known, k) && is_count(refused, r))
-}
 
 // What a reply of these numbers says of one press.
 fn word_by(made: i32, known: i32, refused: i32, code: i32) -> Option<Became>

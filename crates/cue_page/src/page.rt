@@ -163,13 +163,13 @@ fn named(alloc: Global, texts: &[&str]) -> Result<String, AllocError> {
     Ok(names)
 }
 
-/// What the page may do in a browser: run its own scripts with its own style, and speak with where it came from. No
-/// other page may show it in a frame.
+/// What the page may do in a browser: run its own scripts with its own style, and a worker of a text that these make,
+/// for its beat; and speak with where it came from. No other page may show it in a frame.
 pub fn policy(alloc: Global) -> Result<String, AllocError> {
     let (scripts, styles) = (named(alloc, &SCRIPTS)?, named(alloc, &STYLES)?);
     format!(in alloc;
         "default-src 'none'; script-src{}; style-src{}; img-src data:; connect-src 'self'; \
-        base-uri 'none'; form-action 'none'; frame-ancestors 'none'",
+        worker-src blob:; base-uri 'none'; form-action 'none'; frame-ancestors 'none'",
         scripts.as_str(),
         styles.as_str()
     )

@@ -5,6 +5,7 @@
 pub(super) const PRESSING: &str = r#"
 "use strict";
 const POLL = 100, LOCKED = 423, CLOSED = 429, OPEN_FOR = 12000;
+let reading = null;
 const token = document.querySelector("meta[name=cuedesk-token]").content;
 let namesText = "";
 
@@ -169,26 +170,47 @@ document.addEventListener("keydown", (event) => {
 
 // Asks for the newest view. If nobody listens the page grows dark, and says so.
 async function read() {
-  const stop = new AbortController(), timer = setTimeout(() => stop.abort(), DARK), asked = now();
+  const stop = new AbortController(), asked = now();
+  reading = { stop, asked };
   try {
     const reply = await fetch("/board.json", { cache: "no-store", signal: stop.signal });
     missed = 0;
     if (reply.ok) take(await reply.json(), asked);
   } catch (error) { missed += 1; }
-  clearTimeout(timer);
+  reading = null;
 }
 
-async function poll() {
-  await read();
-  setTimeout(poll, POLL);
+function readOn() {
+  if (reading === null) read();
+  else if (now() - reading.asked > DARK) reading.stop.abort();
 }
 
-setInterval(() => {
+// What changes by time alone.
+function pass() {
   if (view && (isDark() !== wasDark || (sure.press && now() > sure.until))) {
     if (now() > sure.until) sure = { press: "", until: 0 };
     draw();
   } else showLit();
   if (word.text !== "" && !hasWord()) showManner();
-}, 100);
-poll();
+}
+
+function beat() {
+  readOn();
+  pass();
+}
+
+// Ten beats a second, also while the page is out of sight: there a browser slows a page's own timers down to one a
+// second and to one a minute, and an alarm would be as late. Those of a worker it lets be.
+function keepBeat() {
+  const byPage = () => setInterval(beat, POLL);
+  try {
+    const text = new Blob(["setInterval(() => postMessage(0), " + POLL + ")"], { type: "text/javascript" });
+    const worker = new Worker(URL.createObjectURL(text));
+    worker.addEventListener("message", beat);
+    worker.addEventListener("error", byPage, { once: true });
+  } catch (error) { byPage(); }
+}
+
+beat();
+keepBeat();
 "#;

@@ -66,6 +66,11 @@ class Controller:
         self.wire.close()
 
 
+# Whether the seconds that are left stand out, and are large.
+IS_SOON = ("const e = document.querySelector('.left .soon'); "
+           "return e !== null && parseFloat(getComputedStyle(e).fontSize) >= 20")
+
+
 def stood_by(page, evening, cue):
     evening.play()
     goes_to(page, cue)
@@ -256,6 +261,8 @@ def stopped_desk(page, evening):
     time.sleep(0.5)
     given = [attempt for attempt in evening.view()["live"] if attempt["stage"] == "given"]
     check("and the cue is not given", given == [] and "complete" not in page.text("last"))
+    check("its last three seconds are told apart", page.waits_for(lambda: page.run(IS_SOON)))
+    check("and once by a tone", page.run("return endsSoon.size") == 1)
     check("it runs out", ends(page, "1", "cancelled"))
     was_seen(page, "ten seconds passed")
 

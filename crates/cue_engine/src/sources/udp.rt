@@ -1,5 +1,5 @@
 //! The network: one UDP socket on 127.0.0.1.
-ghost use Rattle.std.specs.Prelude.{◌≡◌, ◌×◌, ◌∷◌, [], Some, None, length, IfOk, IfSome, false};
+ghost use Rattle.std.specs.Prelude.{◌≡◌, ◌∷◌, [], Some, None, length, IfOk, IfSome, false};
 ghost use Rattle.std.specs.Net.Socket.{socket_ip, socket_port};
 ghost use Rattle.cue_engine.specs.Sources.{GaveAll, IsWithin, Waited, WaitsWithin, gave};
 ghost use Rattle.cue_engine.specs.Tries.{Tried, try_of};

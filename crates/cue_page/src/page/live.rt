@@ -62,7 +62,7 @@ function deviceTable(attempt) {
 }
 
 function secondsBar(attempt) {
-  const left = make("div", "left"), bar = make("div", "progress"), words = make("span", "");
+  const left = make("div", "left"), bar = make("div", "progress"), words = make("b");
   bar.id = "bar-" + attempt.attempt;
   words.id = "left-" + attempt.attempt;
   bar.setAttribute("role", "progressbar");
@@ -78,7 +78,7 @@ function secondsBar(attempt) {
 function sinceLine(attempt) {
   const line = make("p", "since"), words = make("b");
   words.id = "since-" + attempt.attempt;
-  line.append(words, " since GO, at least");
+  line.append(words, " since GO, at least. ", make("span", "", "Nothing here stops it: its own emergency stop does."));
   return line;
 }
 

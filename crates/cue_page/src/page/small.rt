@@ -24,7 +24,8 @@ pub(super) const SMALL: &str = r#"
 .low #stack li .small { grid-column: 4; justify-self: start; }
 .low .attempt { padding: .2rem .6rem; margin-top: .2rem; }
 .low .attempt h3 { font-size: 1.1rem; }
-.low .since b { font-size: 1.4rem; }
+.low .since b, .low .left b { font-size: 1.4rem; }
+.low .since span { font-size: .8rem; }
 .low .left { margin: .1rem 0; }
 .slim th { font-size: 0; padding: 0; }
 .slim .needed { display: none; }

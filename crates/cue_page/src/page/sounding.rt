@@ -1,5 +1,5 @@
 //! What calls an eye that is elsewhere: two tones and a flash at a failure, a silent device, a dead controller, and a
-//! desk that does not answer.
+//! desk that does not answer; one tone three seconds before the ten seconds of a cue are over.
 
 /// The text of a `script`.
 pub(super) const SOUNDING: &str = r#"
@@ -7,6 +7,7 @@ pub(super) const SOUNDING: &str = r#"
 const CALLING = ["failed", "moving", "device", "silent", "unshown", "desk"];
 const HIGH = 880, LOW = 587, TONE = 0.2, FLASH = 2400, FIRST = 2500;
 let calledOut = new Set(), flashUntil = 0, audio = null, isAllowed = false, isWaking = false, sounded = 0;
+let endsSoon = new Set(), warned = 0;
 let wantsSound = recall("sound") !== "off";
 
 // A browser may want a press before it lets a page sound. What sounds nothing rests.
@@ -24,15 +25,26 @@ function tone(pitch, begin) {
   source.stop(begin + TONE);
 }
 
-// The two tones, twice; `sounded` counts how often they came.
-function sound() {
-  if (!wantsSound || !isAllowed) return;
-  const tones = [HIGH, LOW, HIGH, LOW];
-  sounded += 1;
+// Plays these tones, one after the other. Answers whether the page may sound.
+function play(tones) {
+  if (!wantsSound || !isAllowed) return false;
   audio.resume().then(() => {
     tones.forEach((pitch, index) => tone(pitch, audio.currentTime + index * TONE));
     setTimeout(() => audio.suspend(), 1000 * TONE * (tones.length + 2));
   }, () => {});
+  return true;
+}
+
+// The two tones, twice; `sounded` counts how often they came.
+function sound() {
+  if (play([HIGH, LOW, HIGH, LOW])) sounded += 1;
+}
+
+// One tone, once for each cue whose ten seconds end soon; `warned` counts how often it came.
+function warn() {
+  const soon = isDark() ? [] : view.live.filter(isSoon).map((attempt) => attempt.attempt);
+  if (soon.some((attempt) => !endsSoon.has(attempt)) && play([LOW])) warned += 1;
+  endsSoon = new Set(soon);
 }
 
 function showSound() {
@@ -61,6 +73,7 @@ const hasBegun = () => view !== null || now() > FIRST;
 // Calls if something is wrong that was not wrong before. A desk that does not answer hides what else is wrong.
 function callOut() {
   if (!hasBegun()) return;
+  warn();
   const wrong = alarmsNow().filter((one) => CALLING.includes(one.kind)).map((one) => one.kind + " " + one.of);
   if (wrong.some((one) => !calledOut.has(one))) {
     flashUntil = now() + FLASH;

@@ -90,6 +90,8 @@ section { min-height: 0; min-width: 0; overflow: auto; }
 .waits { color: var(--amber); font-weight: 700; overflow-wrap: anywhere; }
 .is-chosen { font-weight: 700; }
 .left { display: flex; gap: .8rem; align-items: center; margin: .3rem 0; color: var(--soft); }
+.left b { font-size: 2rem; line-height: 1.15; font-variant-numeric: tabular-nums; }
+.left .soon { color: var(--amber); }
 .progress { flex: 1; height: .7rem; background: var(--chip); border-radius: .35rem; overflow: hidden; }
 .progress i { display: block; height: 100%; background: var(--amber); }
 .ready .progress i { background: var(--green); }

@@ -4,12 +4,17 @@
 /// The text of a `script`.
 pub(super) const TIMES: &str = r#"
 "use strict";
+// The last of the ten seconds, in milliseconds.
+const SOON = 3000;
+const isSoon = (attempt) => isOpen(attempt) && attempt.left <= SOON;
+
 function showSeconds(attempt) {
   const bar = at("bar-" + attempt.attempt);
   if (bar) {
     bar.setAttribute("aria-valuenow", seconds(attempt.left));
     bar.firstChild.style.width = Math.min(100, attempt.left / 100) + "%";
     write("left-" + attempt.attempt, attempt.left ? seconds(attempt.left) + " s left" : "over");
+    at("left-" + attempt.attempt).classList.toggle("soon", isSoon(attempt));
   }
   if (attempt.given !== null) write("since-" + attempt.attempt, seconds(attempt.given) + " s");
 }

@@ -9,6 +9,10 @@ ENTER, ESCAPE = "\ue007", "\ue00c"
 # What a test makes happen: a request that is cut or refused, and a sound before a press allows it.
 EXPECTED = ("net::", "503", "423", "AudioContext was not allowed")
 
+# By these words chromedriver keeps a browser from slowing pages that are out of sight.
+UNSLOWED = ("disable-background-timer-throttling", "disable-renderer-backgrounding",
+            "disable-backgrounding-occluded-windows")
+
 # What an element is that was replaced or moved meanwhile, or that of a page which loads itself again.
 PASSING = ("StaleElement", "NoSuchElement", "NotInteractable", "ClickIntercepted", "Javascript")
 
@@ -23,14 +27,16 @@ def is_there():
 
 
 class Browser:
-    """One window, 1280 by 800."""
+    """One window, 1280 by 800. `slows`: as at a desk, it slows a page that is out of sight."""
 
-    def __init__(self):
+    def __init__(self, slows=False):
         from selenium import webdriver
         options = webdriver.ChromeOptions()
         for word in ("--headless=new", "--no-sandbox", "--disable-gpu", "--disable-dev-shm-usage",
                      "--hide-scrollbars", "--window-size=1280,940", "--force-device-scale-factor=1"):
             options.add_argument(word)
+        if slows:
+            options.add_experimental_option("excludeSwitches", list(UNSLOWED))
         options.set_capability("goog:loggingPrefs", {"browser": "ALL"})
         service = webdriver.ChromeService("/usr/bin/chromedriver") if hasattr(webdriver, "ChromeService") else None
         if service is None:
@@ -88,6 +94,16 @@ class Browser:
             self.driver.execute_cdp_cmd("Emulation.setDeviceMetricsOverride",
                                         {"width": width, "height": height, "deviceScaleFactor": 1, "mobile": False})
         time.sleep(0.3)
+
+    def behind_another(self):
+        """Puts another tab in front of the page."""
+        self.own = self.driver.current_window_handle
+        self.driver.switch_to.new_window("tab")
+
+    def in_front(self, script):
+        """Puts the page in front again, and runs this there."""
+        self.driver.switch_to.window(self.own)
+        return self.run(script)
 
     def picture(self, path):
         self.driver.save_screenshot(str(path))

@@ -33,7 +33,7 @@ turns-then past (i ∷ first) [] more others e = absurd (omega arith)
 turns-then past (i ∷ first) (s ∷ steps) more others e =
     turns-then (turn_of i s ∷ past) first steps more others (omega arith)
 
-plays-then : (old mid new : Station) (first : List Input) (steps : List Step) (more : List Input) (others : List Step)
+pub plays-then : (old mid new : Station) (first : List Input) (steps : List Step) (more : List Input) (others : List Step)
     → Plays old first steps mid → Plays mid more others new → Plays old (first ++ more) (steps ++ others) new
 plays-then old mid new first steps more others p q = λ past law after.
     let a = p past law after in
@@ -48,7 +48,7 @@ plays-then old mid new first steps more others p q = λ past law after.
       after = subst (λ ts. IsAfter ts new) (sym e) b.after;
     }
 
-unpressed-both : (first more : List Input) → AreUnpressed first → AreUnpressed more → AreUnpressed (first ++ more)
+pub unpressed-both : (first more : List Input) → AreUnpressed first → AreUnpressed more → AreUnpressed (first ++ more)
 unpressed-both [] more p q = q
 unpressed-both (i ∷ first) more p q = (p.0, unpressed-both first more p.1 q)
 
@@ -64,7 +64,7 @@ kept-as turns n p en r o er x y ex s t es l m el v w ev k =
     (subst (λ a. IsKept turns n r x s a w) (sym el)
     (subst (λ a. IsKept turns n r x s l a) (sym ev) k)))))
 
-plays-same : (old new : Station) → IsSame old new → Plays old [] [] new
+pub plays-same : (old new : Station) → IsSame old new → Plays old [] [] new
 plays-same old new same = λ past law after.
     record {
       each = refl;
@@ -74,10 +74,10 @@ plays-same old new same = λ past law after.
           old.views.items new.views.items same.views after;
     }
 
-plays-none : (s : Station) → Plays s [] [] s
+pub plays-none : (s : Station) → Plays s [] [] s
 plays-none s = λ past law after. record { each = refl; law = law; after = after }
 
-plays-one : (old new : Station) (i : Input) (s : Step) → StepKeeps old i new s → Plays old (i ∷ []) (s ∷ []) new
+pub plays-one : (old new : Station) (i : Input) (s : Step) → StepKeeps old i new s → Plays old (i ∷ []) (s ∷ []) new
 plays-one old new i s k = λ past law after.
     record { each = refl; law = ((k past after).0, law); after = (k past after).1 }
 

@@ -6,8 +6,8 @@ use Rattle.cue_ask_machine.specs.declared.letters.Letter.{Letter}
 use Rattle.cue_ask_machine.specs.Answers.{answer_in}
 use Rattle.cue_station.specs.declared.heard.Heard.{Heard}
 use Rattle.cue_station.specs.declared.heard.Heard.TheVariants as heard
-use Rattle.cue_desk_run.specs.declared.asks.Came.{Came}
-use Rattle.cue_desk_run.specs.declared.asks.Came.TheVariants as came
+use Rattle.cue_desk_run.specs.declared.ask.Came.{Came}
+use Rattle.cue_desk_run.specs.declared.ask.Came.TheVariants as came
 
 -- nobody listens at the controller's port; a call that was interrupted says nothing; else nothing is there
 abbrev pub unheard : ErrorKind → Came
@@ -28,3 +28,19 @@ IsRead l datagram (came.Replied r) = answer_in l datagram ≡ Some r
 IsRead l datagram came.Nobody = ⊥
 IsRead l datagram came.Noise = Unit {0}
 IsRead l datagram came.Nothing = ⊥
+
+-- it is no reply
+abbrev pub IsUnreplied : Came → Type 0
+IsUnreplied (came.Replied r) = ⊥
+IsUnreplied _ = Unit {0}
+
+-- what comes to the socket of a letter: a reply is the answer that some datagram has to it
+abbrev pub IsCome : Letter → Came → Type 0
+IsCome l (came.Replied r) = (datagram : List ℕ) × (answer_in l datagram ≡ Some r)
+IsCome l _ = Unit {0}
+
+-- what is heard of a letter: an answer to it, or that nobody listens, under its own number; and nothing else
+abbrev pub IsHeardOf : Letter → Heard → Type 0
+IsHeardOf l (heard.Replied n r) = (n ≡ l.number) × ((datagram : List ℕ) × (answer_in l datagram ≡ Some r))
+IsHeardOf l (heard.Nobody n) = n ≡ l.number
+IsHeardOf l _ = ⊥

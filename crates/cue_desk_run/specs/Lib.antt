@@ -1,4 +1,9 @@
+pub mod Alarming
+pub mod Asking
+pub mod Failing
 pub mod Hearing
+pub mod Laws
+pub mod Leaving
 pub mod Looks
 pub mod Readings
 pub mod Shelves

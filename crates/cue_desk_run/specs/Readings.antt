@@ -1,5 +1,8 @@
 -- What a reading of the store is heard as.
-use Rattle.std.specs.Prelude.{◌≡◌, ℕ, List, Result, Ok, Err}
+use Rattle.std.specs.Prelude.{◌≡◌, ℕ, List, Result, Ok, Err, Option, None, Some}
+use Rattle.std.specs.Option.{option_map}
+use Rattle.cue_desk.specs.declared.stamps.Stamps.{Stamps}
+use Rattle.cue_desk.specs.Readings.{Holds}
 use Rattle.cue_copies.specs.declared.reading.Found.{Found}
 use Rattle.cue_copies.specs.declared.reading.Found.TheVariants as found
 use Rattle.cue_core.specs.State.{ShowState}
@@ -12,6 +15,7 @@ use Rattle.cue_keeper.specs.declared.fault.StoreFault.TheVariants as store
 use Rattle.cue_station.specs.declared.heard.Copied.{Copied}
 use Rattle.cue_station.specs.declared.heard.Heard.{Heard}
 use Rattle.cue_station.specs.declared.heard.Heard.TheVariants as heard
+use Rattle.cue_desk_run.specs.declared.reading.Store.{Store}
 use Rattle.cue_view.specs.declared.view.Trouble.{Trouble}
 use Rattle.cue_view.specs.declared.view.Trouble.TheVariants as trouble
 
@@ -52,3 +56,25 @@ IsOf begun (heard.Copied c) = c.begun ≡ begun
 IsOf begun (heard.Same at) = at ≡ begun
 IsOf begun (heard.Unread why) = Unit {0}
 IsOf begun _ = ⊥
+
+-- nothing was read yet
+pub record IsUnread (s : Store) : Type 0 where
+  pub seen : s.seen ≡ None
+  pub last : s.last ≡ None
+
+-- what was read, once the system had said something of the files, is what they still hold by what it says now
+abbrev pub StillHolds : Option (ℕ × Stamps) → Option Stamps → Type 0
+StillHolds (Some p) (Some now) = Holds p.1 p.0 now
+StillHolds (Some p) None = ⊥
+StillHolds None now = ⊥
+
+-- what is kept of the files by what was heard of them
+abbrev pub seen_by : Heard → ℕ → Option Stamps → Option (ℕ × Stamps)
+seen_by (heard.Copied c) wall stamps = option_map (λ (s : Stamps). (wall, s)) stamps
+seen_by (heard.Same at) wall stamps = option_map (λ (s : Stamps). (wall, s)) stamps
+seen_by _ wall stamps = None
+
+-- what could not be read is read again, whatever the system says of the files
+abbrev pub IsReadAgain : Heard → Option (ℕ × Stamps) → Type 0
+IsReadAgain (heard.Unread why) seen = seen ≡ None
+IsReadAgain _ seen = Unit {0}

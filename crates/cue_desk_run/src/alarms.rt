@@ -1,6 +1,7 @@
 //! The alarms that nobody has seen, as a text that outlives the program: a desk that is started again knows them, and
 //! so does each other one that reads there.
-ghost use Rattle.std.specs.Prelude.{IfOk, OnOk};
+ghost use Rattle.std.specs.Prelude.{◌≡◌, IfOk, OnOk};
+ghost use Rattle.cue_desk_run.specs.Alarming as alarming;
 ghost use Rattle.cue_desk_run.specs.Shelves.{Says, Stands};
 ghost use Rattle.cue_kept.specs.Alarms.{alarms_of};
 ghost use Rattle.cue_kept.specs.Text.{write};
@@ -23,14 +24,18 @@ pub enum AlarmsFile<'a> {
 
 impl<'a> AlarmsFile<'a> {
     /// Its path.
-    pub(crate) fn path(self) -> &'a str {
+    pub(crate) fn path(self) -> &'a str
+        ensures { result.now ≡ alarming.path_of self.entry }
+    {
         match self {
             AlarmsFile::Own(path) | AlarmsFile::OfAnother(path) => path,
         }
     }
 
     /// Whether this desk writes it.
-    pub(crate) fn is_own(self) -> bool {
+    pub(crate) fn is_own(self) -> bool
+        ensures { result ≡ alarming.is_of_this_desk self.entry }
+    {
         matches!(self, AlarmsFile::Own(_))
     }
 }
@@ -45,7 +50,10 @@ pub(crate) struct KeptAlarms<'a, R> {
 
 impl<'a, R: Files<File = File> + AllocGlobal> KeptAlarms<'a, R> {
     /// The file, which is not read yet.
-    pub(crate) fn of(rt: &'a R, file: AlarmsFile<'a>) -> Result<KeptAlarms<'a, R>, AllocError> {
+    pub(crate) fn of(rt: &'a R, file: AlarmsFile<'a>) -> Result<KeptAlarms<'a, R>, AllocError>
+        ensures path { IfOk result (λ kept. kept.shelf.path.now ≡ alarming.path_of file.entry) }
+        ensures own { IfOk result (λ kept. kept.is_own ≡ alarming.is_of_this_desk file.entry) }
+    {
         Ok(KeptAlarms {
             shelf: FileShelf::of(rt, file.path())?,
             is_own: file.is_own(),

@@ -1,9 +1,20 @@
 //! The two clocks of the desk: one that never goes back, and that of the wall, by which the controller counts.
-ghost use Rattle.std.specs.Prelude.{◌≡◌};
+ghost use Rattle.std.specs.Prelude.{◌≡◌, ◌/◌, IfSome};
+ghost use Rattle.std.specs.Duration.{as_nanos};
 ghost use Rattle.cue_desk_run.specs.Looks as looks;
 
 use std::io;
-use std::time::{Clock, Instant};
+use std::time::{Clock, Duration, Instant};
+
+// Whole milliseconds; none if a number of 64 bits cannot hold them.
+fn millis_of(since: Duration) -> Option<u64>
+    ensures { IfSome result (λ millis. millis ≡ as_nanos since / 1_000_000) }
+{
+    match u64::try_from(since.as_millis()) {
+        Ok(millis) => Some(millis),
+        Err(_) => None,
+    }
+}
 
 /// A clock that never goes back. It begins with the desk.
 #[derive(Drop)]
@@ -22,14 +33,14 @@ impl SteadyClock {
     /// Milliseconds since it began.
     pub fn now<C: Clock>(&self, clock: &C) -> io::Result<u64> {
         let since = self.start.elapsed(clock)?;
-        Ok(u64::try_from(since.as_millis()).unwrap_or(u64::MAX))
+        Ok(millis_of(since).unwrap_or(u64::MAX))
     }
 }
 
 /// Milliseconds since 1970, by the clock of the wall; 0 if there is none.
 pub fn wall_time<C: Clock>(clock: &C) -> u64 {
     match clock.since_1970() {
-        Ok(since) => u64::try_from(since.as_millis()).unwrap_or(0),
+        Ok(since) => millis_of(since).unwrap_or(0),
         Err(_) => 0,
     }
 }

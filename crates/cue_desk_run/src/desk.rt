@@ -1,8 +1,12 @@
 //! The desk at work: it hears the controller, the files and the relay, has the machine make a view of each thing that
 //! it heard, and sends what the machine says. Nothing here waits but `wait`.
-ghost use Rattle.std.specs.Prelude.{◌≡◌, [], IfOk, OnErr};
+ghost use Rattle.std.specs.Prelude.{◌≡◌, [], IfOk, OnErr, OnOk};
+ghost use Rattle.std.specs.Option.{option_copied, option_map};
+ghost use Rattle.cue_desk_run.specs.Leaving as leaving;
+ghost use Rattle.cue_desk_run.specs.Leaving.{LetterLeaves, NothingLeaves, OnlySends, Sends, SendsIf};
 ghost use Rattle.cue_desk_run.specs.Working.{HearsIf, IsUnpressed, IsUntouched, OnlyLooks};
 ghost use Rattle.cue_station.specs.Memory.{IsAfter};
+ghost use Rattle.cue_station.specs.Reading.{state_read};
 ghost use Rattle.cue_station.specs.declared.heard.Heard.TheVariants as heard;
 
 mod alarming;
@@ -10,11 +14,13 @@ mod alarming;
 use crate::alarms::{KeptAlarms, are_same};
 use crate::asks::Asks;
 use crate::clocks::{Beat, SteadyClock, wall_time};
+use crate::failing::Tries;
 use crate::letters::letter_of;
 use crate::looks::Looks;
+use crate::outlet::Way;
 use crate::reading::Store;
 use crate::relay::read_young;
-use cue_asker::AskerName;
+use crate::sources::Sources;
 use cue_core::State;
 use cue_show_file::Group;
 use cue_station::heard::{Heard, Input, Send};
@@ -43,18 +49,6 @@ const MAX_ANSWERS: u32 = 3;
 /// How many events one wait tells of. What is not told is heard all the same.
 const EVENTS: usize = 64;
 
-/// What a desk works with: the folder of a store, a controller's port, the file of a relay, who presses, and which cues
-/// are stood by together.
-#[derive(Clone, Copy)]
-pub struct Sources<'a> {
-    pub dir: &'a str,
-    pub port: u16,
-    pub relay: Option<&'a str>,
-    pub name: Option<AskerName>,
-    /// The cues that STANDBY stands by together, for as long as the desk runs.
-    pub together: &'a [Group],
-}
-
 /// A desk.
 #[derive(Drop)]
 pub struct Desk<'a, R> {
@@ -65,19 +59,14 @@ pub struct Desk<'a, R> {
     view: View,
     poll: Poll,
     events: Events,
-    asks: Asks,
-    // Whether the last message could not be sent, and why, until that is told.
-    has_failed: bool,
-    fault: Option<io::Error>,
+    asks: Asks<'a>,
     store: Store,
     relay: Option<&'a str>,
     alarms: Option<KeptAlarms<'a, R>>,
     // Whether other failures are told of than those that were kept last.
     has_changed: bool,
-    // Whether the alarms could not be kept, and why, until that is told.
-    has_lost: bool,
-    loss: Option<io::Error>,
-    together: &'a [Group],
+    // What became of the tries to keep the alarms.
+    keepings: Tries,
     ticks: Beat,
     looks: Looks,
     relays: Beat,
@@ -87,7 +76,8 @@ pub struct Desk<'a, R> {
 // The first step: time passes.
 fn first_step<R: Clock + AllocGlobal>(rt: &R, station: &mut Station) -> Result<Step, AllocError>
     requires { IsAfter [] station.old }
-    ensures { IfOk result (λ step. IsUntouched station.new) }
+    ensures untouched { OnOk result (IsUntouched station.new) }
+    ensures first { IfOk result (leaving.IsFirstStep station.old station.new) }
 {
     let input = Input {
         at: 0,
@@ -100,8 +90,11 @@ fn first_step<R: Clock + AllocGlobal>(rt: &R, station: &mut Station) -> Result<S
 
 impl<'a, R: Files<File = File> + Net + Clock + AllocGlobal> Desk<'a, R> {
     /// A desk of which nothing was pressed yet.
+    #[tactic(auto, using(crate::proofs::LeaveLemmas::begins))]
     pub fn new(rt: &'a R, sources: &Sources<'a>) -> io::Result<Desk<'a, R>>
-        ensures { IfOk result (λ desk. IsUntouched desk.station) }
+        ensures untouched { IfOk result (λ desk. IsUntouched desk.station) }
+        ensures begins { IfOk result (λ desk. leaving.Begins desk.station desk.asks.outlet) }
+        ensures way { IfOk result (λ desk. desk.asks.outlet.way ≡ leaving.way_of sources.now) }
     {
         let clock = SteadyClock::new(rt)?;
         let poll = Poll::new(rt)?;
@@ -115,6 +108,11 @@ impl<'a, R: Files<File = File> + Net + Clock + AllocGlobal> Desk<'a, R> {
                 return Err(io::Error::from(why));
             }
         };
+        let way = Way {
+            port: sources.port,
+            name: sources.name,
+            together: sources.together,
+        };
         let mut desk = Desk {
             rt,
             clock,
@@ -122,16 +120,12 @@ impl<'a, R: Files<File = File> + Net + Clock + AllocGlobal> Desk<'a, R> {
             view,
             poll,
             events,
-            asks: Asks::new(rt.alloc(), sources.port, sources.name),
-            has_failed: false,
-            fault: None,
+            asks: Asks::new(rt.alloc(), way),
             store: Store::new(dir),
             relay: sources.relay,
             alarms: None,
             has_changed: false,
-            has_lost: false,
-            loss: None,
-            together: sources.together,
+            keepings: Tries::new(),
             ticks: Beat::of(TICK),
             looks: Looks::new(),
             relays: Beat::of(RELAY),
@@ -149,12 +143,16 @@ impl<'a, R: Files<File = File> + Net + Clock + AllocGlobal> Desk<'a, R> {
     }
 
     /// The cues that STANDBY stands by together.
-    pub fn together(&self) -> &'a [Group] {
-        self.together
+    pub fn together(&self) -> &'a [Group]
+        ensures { result.now ≡ self.now.asks.outlet.way.together.now }
+    {
+        self.asks.together()
     }
 
     /// What the store stood for when it was read last; none if it was never read.
-    pub fn state(&self) -> Option<&State> {
+    pub fn state(&self) -> Option<&State>
+        ensures { option_copied result ≡ option_map state_read self.now.station.reading }
+    {
         self.station.state()
     }
 
@@ -169,31 +167,28 @@ impl<'a, R: Files<File = File> + Net + Clock + AllocGlobal> Desk<'a, R> {
     }
 
     // Sends a message, with the cues that stand by together with its own.
+    #[tactic(auto, using(crate::proofs::LeaveLemmas::letter_leaves))]
     fn post(&mut self, send: Send) -> io::Result<()>
         ensures station { self.new.station ≡ self.old.station }
         ensures view { self.new.view ≡ self.old.view }
+        ensures left { OnOk result (LetterLeaves send self.old.asks.outlet self.new.asks.outlet) }
+        ensures lost { OnErr result (self.new.asks.outlet ≡ self.old.asks.outlet) }
     {
         self.asks.make_room(send.order);
-        let letter = letter_of(self.rt.alloc(), send, self.together)?;
-        self.asks.send(self.rt, self.poll.registry(), letter)
+        let letter = letter_of(self.rt.alloc(), send, self.asks.together())?;
+        self.asks.post(self.rt, self.poll.registry(), letter)
     }
 
     // Sends what the machine says. If that fails, no answer to it comes.
+    #[tactic(auto, using(crate::proofs::LeaveLemmas::left_or_failed))]
     fn send(&mut self, send: Option<Send>)
         ensures station { self.new.station ≡ self.old.station }
         ensures view { self.new.view ≡ self.old.view }
+        ensures sends { Sends send self.old.asks.outlet self.new.asks.outlet }
     {
-        let Some(send) = send else {
-            return;
-        };
-        match self.post(send) {
-            Ok(()) => self.has_failed = false,
-            Err(why) => {
-                if !self.has_failed {
-                    self.fault = Some(why);
-                }
-                self.has_failed = true;
-            }
+        if let Some(send) = send {
+            let posted = self.post(send);
+            self.asks.note(posted);
         }
     }
 
@@ -201,14 +196,16 @@ impl<'a, R: Files<File = File> + Net + Clock + AllocGlobal> Desk<'a, R> {
     pub fn take_fault(&mut self) -> Option<io::Error>
         ensures station { self.new.station ≡ self.old.station }
         ensures view { self.new.view ≡ self.old.view }
+        ensures nothing { NothingLeaves self.old.asks.outlet self.new.asks.outlet }
     {
-        self.fault.take()
+        self.asks.take_fault()
     }
 
     // This view is the newest.
     fn show(&mut self, view: View)
         ensures station { self.new.station ≡ self.old.station }
         ensures view { self.new.view ≡ view }
+        ensures nothing { self.new.asks.outlet ≡ self.old.asks.outlet }
     {
         let old = mem::replace(&mut self.view, view);
         self.has_changed = self.has_changed || !are_same(&old.failed, &self.view.failed);
@@ -216,7 +213,9 @@ impl<'a, R: Files<File = File> + Net + Clock + AllocGlobal> Desk<'a, R> {
 
     // Hears one thing at this moment, and answers whether it was heard: if memory ran out, nothing was.
     fn hear_at(&mut self, at: u64, heard: Heard) -> bool
-        ensures { HearsIf result heard self.old.station self.new.station self.old.view self.new.view }
+        ensures heard { HearsIf result heard self.old.station self.new.station self.old.view self.new.view }
+        ensures sends { SendsIf result heard self.old.station self.new.station self.old.view self.new.view
+            self.old.asks.outlet self.new.asks.outlet }
     {
         let wall = wall_time(self.rt);
         let input = Input { at, wall, heard };
@@ -233,8 +232,11 @@ impl<'a, R: Files<File = File> + Net + Clock + AllocGlobal> Desk<'a, R> {
     fn hear(&mut self, heard: Heard) -> io::Result<bool>
         ensures heard { IfOk result (λ is_heard. HearsIf is_heard heard self.old.station self.new.station
             self.old.view self.new.view) }
+        ensures sends { IfOk result (λ is_heard. SendsIf is_heard heard self.old.station self.new.station
+            self.old.view self.new.view self.old.asks.outlet self.new.asks.outlet) }
         ensures station { OnErr result (self.new.station ≡ self.old.station) }
         ensures view { OnErr result (self.new.view ≡ self.old.view) }
+        ensures nothing { OnErr result (self.new.asks.outlet ≡ self.old.asks.outlet) }
     {
         match self.now() {
             Ok(at) => Ok(self.hear_at(at, heard)),
@@ -247,8 +249,10 @@ impl<'a, R: Files<File = File> + Net + Clock + AllocGlobal> Desk<'a, R> {
 
     /// A button of the view with this number was pressed. Answers whether that was heard.
     pub fn press(&mut self, number: u64, button: Button) -> bool
-        ensures { HearsIf result (heard.Pressed number button) self.old.station self.new.station
+        ensures heard { HearsIf result (heard.Pressed number button) self.old.station self.new.station
             self.old.view self.new.view }
+        ensures sends { SendsIf result (heard.Pressed number button) self.old.station self.new.station
+            self.old.view self.new.view self.old.asks.outlet self.new.asks.outlet }
     {
         matches!(self.hear(Heard::Pressed(number, button)), Ok(true))
     }
@@ -256,15 +260,17 @@ impl<'a, R: Files<File = File> + Net + Clock + AllocGlobal> Desk<'a, R> {
     // Hears one thing that is no press. Answers whether it was heard.
     fn look(&mut self, heard: Heard) -> io::Result<bool>
         requires { IsUnpressed heard }
-        ensures { OnlyLooks self.old.station self.new.station }
+        ensures looks { OnlyLooks self.old.station self.new.station }
+        ensures sends { OnlySends self.old.station self.new.station self.old.asks.outlet self.new.asks.outlet }
     {
         self.hear(heard)
     }
 
     // Hears the answers that are there.
-    #[tactic(auto, using(crate::proofs::WorkLemmas::looks_none, crate::proofs::WorkLemmas::looks_then))]
+    #[tactic(auto, using(crate::proofs::WorkLemmas::looks_none, crate::proofs::WorkLemmas::looks_then, crate::proofs::LeaveLemmas::sends_none, crate::proofs::LeaveLemmas::sends_then))]
     fn hear_answers(&mut self) -> io::Result<()>
-        ensures { OnlyLooks self.old.station self.new.station }
+        ensures looks { OnlyLooks self.old.station self.new.station }
+        ensures sends { OnlySends self.old.station self.new.station self.old.asks.outlet self.new.asks.outlet }
     {
         for _ in 0..MAX_ANSWERS {
             let Some(heard) = self.asks.hear(self.rt.alloc()) else {
@@ -278,7 +284,8 @@ impl<'a, R: Files<File = File> + Net + Clock + AllocGlobal> Desk<'a, R> {
     // Hears what the files of the store say. A copy that was not heard is read again.
     fn hear_store(&mut self, heard: Heard) -> io::Result<()>
         requires { IsUnpressed heard }
-        ensures { OnlyLooks self.old.station self.new.station }
+        ensures looks { OnlyLooks self.old.station self.new.station }
+        ensures sends { OnlySends self.old.station self.new.station self.old.asks.outlet self.new.asks.outlet }
     {
         if !self.look(heard)? {
             self.store.forget();
@@ -288,9 +295,10 @@ impl<'a, R: Files<File = File> + Net + Clock + AllocGlobal> Desk<'a, R> {
 
     // Looks at the files of the store. What came while they were read is heard before the copy: else the next question
     // for the status could take the place of one whose answer is there.
-    #[tactic(auto, using(crate::proofs::WorkLemmas::of_store, crate::proofs::WorkLemmas::looks_none, crate::proofs::WorkLemmas::looks_then))]
+    #[tactic(auto, using(crate::proofs::WorkLemmas::of_store, crate::proofs::WorkLemmas::looks_none, crate::proofs::WorkLemmas::looks_then, crate::proofs::LeaveLemmas::sends_none, crate::proofs::LeaveLemmas::sends_then))]
     fn look_at_store(&mut self) -> io::Result<()>
-        ensures { OnlyLooks self.old.station self.new.station }
+        ensures looks { OnlyLooks self.old.station self.new.station }
+        ensures sends { OnlySends self.old.station self.new.station self.old.asks.outlet self.new.asks.outlet }
     {
         let begun = self.now()?;
         if !self.looks.is_due(&self.view, begun) {
@@ -305,9 +313,10 @@ impl<'a, R: Files<File = File> + Net + Clock + AllocGlobal> Desk<'a, R> {
     }
 
     // Looks at what the relay has written.
-    #[tactic(auto, using(crate::proofs::WorkLemmas::looks_none, crate::proofs::WorkLemmas::looks_then))]
+    #[tactic(auto, using(crate::proofs::WorkLemmas::looks_none, crate::proofs::WorkLemmas::looks_then, crate::proofs::LeaveLemmas::sends_none, crate::proofs::LeaveLemmas::sends_then))]
     fn look_at_relay(&mut self) -> io::Result<()>
-        ensures { OnlyLooks self.old.station self.new.station }
+        ensures looks { OnlyLooks self.old.station self.new.station }
+        ensures sends { OnlySends self.old.station self.new.station self.old.asks.outlet self.new.asks.outlet }
     {
         let now = self.now()?;
         if let Some(path) = self.relay {
@@ -320,9 +329,10 @@ impl<'a, R: Files<File = File> + Net + Clock + AllocGlobal> Desk<'a, R> {
     }
 
     // Lets time pass, if a question for the status is due or no view was made for a while.
-    #[tactic(auto, using(crate::proofs::WorkLemmas::looks_none, crate::proofs::WorkLemmas::looks_then))]
+    #[tactic(auto, using(crate::proofs::WorkLemmas::looks_none, crate::proofs::WorkLemmas::looks_then, crate::proofs::LeaveLemmas::sends_none, crate::proofs::LeaveLemmas::sends_then))]
     fn tick(&mut self) -> io::Result<()>
-        ensures { OnlyLooks self.old.station self.new.station }
+        ensures looks { OnlyLooks self.old.station self.new.station }
+        ensures sends { OnlySends self.old.station self.new.station self.old.asks.outlet self.new.asks.outlet }
     {
         let now = self.now()?;
         if self.ticks.is_due(now) || self.station.due(now) {
@@ -332,36 +342,40 @@ impl<'a, R: Files<File = File> + Net + Clock + AllocGlobal> Desk<'a, R> {
     }
 
     // Hears the controller, and looks at the store.
-    #[tactic(auto, using(crate::proofs::WorkLemmas::looks_none, crate::proofs::WorkLemmas::looks_then))]
+    #[tactic(auto, using(crate::proofs::WorkLemmas::looks_none, crate::proofs::WorkLemmas::looks_then, crate::proofs::LeaveLemmas::sends_none, crate::proofs::LeaveLemmas::sends_then))]
     fn look_at_controller(&mut self) -> io::Result<()>
-        ensures { OnlyLooks self.old.station self.new.station }
+        ensures looks { OnlyLooks self.old.station self.new.station }
+        ensures sends { OnlySends self.old.station self.new.station self.old.asks.outlet self.new.asks.outlet }
     {
         self.hear_answers()?;
         self.look_at_store()
     }
 
     // Looks at what the relay and other desks have written.
-    #[tactic(auto, using(crate::proofs::WorkLemmas::looks_none, crate::proofs::WorkLemmas::looks_then))]
+    #[tactic(auto, using(crate::proofs::WorkLemmas::looks_none, crate::proofs::WorkLemmas::looks_then, crate::proofs::LeaveLemmas::sends_none, crate::proofs::LeaveLemmas::sends_then))]
     fn look_beside(&mut self) -> io::Result<()>
-        ensures { OnlyLooks self.old.station self.new.station }
+        ensures looks { OnlyLooks self.old.station self.new.station }
+        ensures sends { OnlySends self.old.station self.new.station self.old.asks.outlet self.new.asks.outlet }
     {
         self.look_at_relay()?;
         self.look_at_alarms()
     }
 
     // Looks at all that is due.
-    #[tactic(auto, using(crate::proofs::WorkLemmas::looks_none, crate::proofs::WorkLemmas::looks_then))]
+    #[tactic(auto, using(crate::proofs::WorkLemmas::looks_none, crate::proofs::WorkLemmas::looks_then, crate::proofs::LeaveLemmas::sends_none, crate::proofs::LeaveLemmas::sends_then))]
     fn look_around(&mut self) -> io::Result<()>
-        ensures { OnlyLooks self.old.station self.new.station }
+        ensures looks { OnlyLooks self.old.station self.new.station }
+        ensures sends { OnlySends self.old.station self.new.station self.old.asks.outlet self.new.asks.outlet }
     {
         self.look_at_controller()?;
         self.look_beside()
     }
 
     /// Hears all that is there, and looks at what is due. It presses nothing.
-    #[tactic(auto, using(crate::proofs::WorkLemmas::looks_none, crate::proofs::WorkLemmas::looks_then))]
+    #[tactic(auto, using(crate::proofs::WorkLemmas::looks_none, crate::proofs::WorkLemmas::looks_then, crate::proofs::LeaveLemmas::sends_none, crate::proofs::LeaveLemmas::sends_then))]
     pub fn round(&mut self) -> io::Result<()>
-        ensures { OnlyLooks self.old.station self.new.station }
+        ensures looks { OnlyLooks self.old.station self.new.station }
+        ensures sends { OnlySends self.old.station self.new.station self.old.asks.outlet self.new.asks.outlet }
     {
         self.look_around()?;
         self.tick()
@@ -371,6 +385,7 @@ impl<'a, R: Files<File = File> + Net + Clock + AllocGlobal> Desk<'a, R> {
     pub fn wait(&mut self, most: u64) -> io::Result<()>
         ensures station { self.new.station ≡ self.old.station }
         ensures view { self.new.view ≡ self.old.view }
+        ensures nothing { self.new.asks.outlet ≡ self.old.asks.outlet }
     {
         self.poll
             .poll(&mut self.events, Some(Duration::from_millis(most)))

@@ -19,6 +19,8 @@
 //! - Each ask has a socket of its own, connected to the port of `serve`: a reply belongs to its ask by the port at
 //!   which it comes, a datagram of another program is dropped by the system, and the system says at once that nobody
 //!   listens. At most three are open: the newest question for the status and two presses.
+//! - All letters leave by one way out (`Outlet`), which counts them and keeps the newest. No contract can say what a socket
+//!   does; so this says what was handed to it, and a letter that leaves twice, or another one, is refused.
 //! - A press may carry a name: its socket sends `/as/NAME` first, once, and then the message. The controller refuses
 //!   the name, which puts it into the log; that reply has another address than the press, and so is none to it. A
 //!   question for the status carries none: it would put a line into the log ten times a second.
@@ -37,20 +39,26 @@
 
 mod addresses;
 mod alarms;
+mod ask;
 mod asks;
 mod clocks;
 mod desk;
+mod failing;
+pub mod laws;
 mod letters;
 mod looks;
+mod outlet;
 mod plain;
 mod reading;
 mod relay;
 mod shelf;
+mod sources;
 mod stamps;
 
 pub use addresses::local;
 pub use alarms::AlarmsFile;
 pub use clocks::{Beat, wall_time};
-pub use desk::{Desk, Sources};
+pub use desk::Desk;
 pub use plain::{open_plain, text_within};
 pub use relay::read_status;
+pub use sources::Sources;

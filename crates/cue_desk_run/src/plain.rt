@@ -1,4 +1,6 @@
 //! Files that are read again and again while the desk runs: what is no file is not opened, none is read without end.
+ghost use Rattle.std.specs.Prelude.{◌≤◌, IfOk, string_len};
+
 use std::fs::{self, File, Files};
 use std::io::{self, ErrorKind, Read};
 
@@ -16,7 +18,9 @@ pub fn text_within<R: Files<File = File> + AllocGlobal>(
     rt: &R,
     path: &str,
     most: usize,
-) -> io::Result<String> {
+) -> io::Result<String>
+    ensures { IfOk result (λ text. string_len text ≤ most) }
+{
     let file = open_plain(rt, path)?;
     let mut bytes = Vec::new(rt.alloc());
     let room = u64::try_from(most).unwrap_or(u64::MAX).saturating_add(1);

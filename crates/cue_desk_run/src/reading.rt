@@ -1,5 +1,5 @@
 //! A store as the desk reads it, beside whoever serves it: read again only if its files may have changed.
-ghost use Rattle.std.specs.Prelude.{◌≡◌};
+ghost use Rattle.std.specs.Prelude.{◌≡◌, ◌↔◌, IsTrue};
 ghost use Rattle.cue_desk_run.specs.Readings as readings;
 ghost use Rattle.cue_keeper.specs.Observed.{state_of};
 
@@ -116,9 +116,21 @@ fn hear_found(begun: u64, found: Result<Found, Trouble>) -> (Heard, Option<Copie
     }
 }
 
+// What is kept of the files once this was heard of them: nothing, unless it stands for what they held at this moment.
+fn seen_by(heard: &Heard, wall: u64, stamps: Option<Stamps>) -> Option<(u64, Stamps)>
+    ensures { result ≡ readings.seen_by heard.now wall stamps }
+{
+    match heard {
+        Heard::Copied(_) | Heard::Same(_) => stamps.map(|stamps| (wall, stamps)),
+        _ => None,
+    }
+}
+
 impl Store {
     /// The store of this folder, of which nothing is read yet.
-    pub fn new(dir: String) -> Store {
+    pub fn new(dir: String) -> Store
+        ensures { readings.IsUnread result }
+    {
         Store {
             dir,
             seen: None,
@@ -127,16 +139,23 @@ impl Store {
     }
 
     /// Lets it be read again, whatever the files look like.
-    pub fn forget(&mut self) {
+    pub fn forget(&mut self)
+        ensures { readings.IsUnread self.new }
+    {
         self.seen = None;
         self.last = None;
     }
 
     // Whether the last copy is what another one would give, too.
-    fn holds(&self, stamps: Option<Stamps>) -> bool {
-        match (self.seen, stamps) {
-            (Some((begun, seen)), Some(stamps)) => seen.holds(begun, stamps),
-            _ => false,
+    fn holds(&self, stamps: Option<Stamps>) -> bool
+        ensures { IsTrue result ↔ readings.StillHolds self.now.seen stamps }
+    {
+        let Some((begun, seen)) = self.seen else {
+            return false;
+        };
+        match stamps {
+            Some(stamps) => seen.holds(begun, stamps),
+            None => false,
         }
     }
 
@@ -154,8 +173,10 @@ impl Store {
 
     /// Looks at the store: it is read if that may give something else than the last copy. `begun` is this moment, by
     /// the clock that never goes back.
+    #[tactic(auto, using(crate::proofs::ReadLemmas::read_again))]
     pub fn look<R: Files<File = File> + Clock + AllocGlobal>(&mut self, rt: &R, begun: u64) -> Heard
-        ensures { readings.IsOf begun result }
+        ensures moment { readings.IsOf begun result }
+        ensures again { readings.IsReadAgain result self.new.seen }
     {
         let wall = wall_time(rt);
         let stamps = stamps_at(rt, self.dir.as_str());
@@ -163,10 +184,7 @@ impl Store {
             return Heard::Same(begun);
         }
         let heard = self.read(rt, begun);
-        self.seen = match heard {
-            Heard::Copied(_) | Heard::Same(_) => stamps.map(|stamps| (wall, stamps)),
-            _ => None,
-        };
+        self.seen = seen_by(&heard, wall, stamps);
         heard
     }
 }

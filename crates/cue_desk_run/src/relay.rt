@@ -1,4 +1,6 @@
 //! What a relay writes of itself, as the desk reads it.
+ghost use Rattle.std.specs.Prelude.{◌≡◌, ◌+◌, ◌<◌, ◌≤◌};
+
 use crate::clocks::wall_time;
 use crate::plain::text_within;
 use cue_relay::status::{STALE, Status, read};
@@ -19,14 +21,22 @@ pub fn read_status<R: Files<File = File> + AllocGlobal>(
     Ok(read(rt.alloc(), text.as_str())?)
 }
 
+// What a relay wrote, unless it has stopped since then; `wall`: the moment that it is, in milliseconds since 1970.
+fn if_young(status: Status, wall: u64) -> Option<Status>
+    ensures young { wall ≤ status.now + STALE → result ≡ Some status }
+    ensures old { status.now + STALE < wall → result ≡ None }
+{
+    if status.now.saturating_add(STALE) < wall {
+        return None;
+    }
+    Some(status)
+}
+
 /// The same; none as well if the file cannot be read, or a relay that has stopped has left it.
 pub(crate) fn read_young<R: Files<File = File> + Clock + AllocGlobal>(
     rt: &R,
     path: &str,
 ) -> Option<Status> {
     let status = read_status(rt, path).ok().flatten()?;
-    if status.now.saturating_add(STALE) < wall_time(rt) {
-        return None;
-    }
-    Some(status)
+    if_young(status, wall_time(rt))
 }

@@ -1,5 +1,5 @@
 //! A place that has one text, which is read and replaced whole.
-ghost use Rattle.std.specs.Prelude.{ℕ, List, Option, None, IfOk, OnOk, string_bytes};
+ghost use Rattle.std.specs.Prelude.{◌≡◌, ℕ, List, Option, None, IfOk, OnOk, string_bytes};
 ghost use Rattle.cue_desk_run.specs.Shelves.{Stands};
 
 use crate::plain::text_within;
@@ -34,7 +34,9 @@ pub(crate) struct FileShelf<'a, R> {
 
 impl<'a, R: Files<File = File> + AllocGlobal> FileShelf<'a, R> {
     /// The file at this path.
-    pub(crate) fn of(rt: &'a R, path: &'a str) -> Result<FileShelf<'a, R>, AllocError> {
+    pub(crate) fn of(rt: &'a R, path: &'a str) -> Result<FileShelf<'a, R>, AllocError>
+        ensures { IfOk result (λ shelf. shelf.path.now ≡ path.now) }
+    {
         let beside = format!(in rt.alloc(); "{path}.new")?;
         Ok(FileShelf { rt, path, beside })
     }

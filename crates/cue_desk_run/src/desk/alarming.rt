@@ -1,5 +1,6 @@
 //! The alarms of a desk, in a file that outlives it.
-ghost use Rattle.std.specs.Prelude.{◌≡◌};
+ghost use Rattle.std.specs.Prelude.{◌≡◌, false};
+ghost use Rattle.cue_desk_run.specs.Leaving.{OnlySends};
 ghost use Rattle.cue_desk_run.specs.Working.{OnlyLooks};
 
 use super::Desk;
@@ -14,9 +15,10 @@ use std::time::Clock;
 impl<'a, R: Files<File = File> + Net + Clock + AllocGlobal> Desk<'a, R> {
     /// Hears of the alarms that are kept in this file, and keeps its own there from now on, unless it is that of
     /// another desk. A file that has anything else is an error, and stays as it is.
-    #[tactic(auto, using(crate::proofs::WorkLemmas::looks_none, crate::proofs::WorkLemmas::looks_then))]
+    #[tactic(auto, using(crate::proofs::WorkLemmas::looks_none, crate::proofs::WorkLemmas::looks_then, crate::proofs::LeaveLemmas::sends_none, crate::proofs::LeaveLemmas::sends_then))]
     pub fn keep_alarms(&mut self, file: AlarmsFile<'a>) -> io::Result<()>
-        ensures { OnlyLooks self.old.station self.new.station }
+        ensures looks { OnlyLooks self.old.station self.new.station }
+        ensures sends { OnlySends self.old.station self.new.station self.old.asks.outlet self.new.asks.outlet }
     {
         let mut alarms = KeptAlarms::of(self.rt, file)?;
         let kept = kept_at(&mut alarms.shelf, self.rt.alloc())?;
@@ -25,9 +27,10 @@ impl<'a, R: Files<File = File> + Net + Clock + AllocGlobal> Desk<'a, R> {
     }
 
     // Hears what is kept in a file, if there is something.
-    #[tactic(auto, using(crate::proofs::WorkLemmas::looks_none, crate::proofs::WorkLemmas::looks_then))]
+    #[tactic(auto, using(crate::proofs::WorkLemmas::looks_none, crate::proofs::WorkLemmas::looks_then, crate::proofs::LeaveLemmas::sends_none, crate::proofs::LeaveLemmas::sends_then))]
     fn hear_kept(&mut self, kept: Option<Kept>) -> io::Result<()>
-        ensures { OnlyLooks self.old.station self.new.station }
+        ensures looks { OnlyLooks self.old.station self.new.station }
+        ensures sends { OnlySends self.old.station self.new.station self.old.asks.outlet self.new.asks.outlet }
     {
         if let Some(kept) = kept {
             let _ = self.look(Heard::Kept(kept))?;
@@ -37,7 +40,8 @@ impl<'a, R: Files<File = File> + Net + Clock + AllocGlobal> Desk<'a, R> {
 
     // Hears of the alarms that desks keep there. What cannot be read says nothing.
     fn hear_alarms(&mut self) -> io::Result<()>
-        ensures { OnlyLooks self.old.station self.new.station }
+        ensures looks { OnlyLooks self.old.station self.new.station }
+        ensures sends { OnlySends self.old.station self.new.station self.old.asks.outlet self.new.asks.outlet }
     {
         let kept = match &mut self.alarms {
             Some(alarms) => kept_at(&mut alarms.shelf, self.rt.alloc()).ok().flatten(),
@@ -50,6 +54,8 @@ impl<'a, R: Files<File = File> + Net + Clock + AllocGlobal> Desk<'a, R> {
     fn write_alarms(&mut self)
         ensures station { self.new.station ≡ self.old.station }
         ensures view { self.new.view ≡ self.old.view }
+        ensures nothing { self.new.asks.outlet ≡ self.old.asks.outlet }
+        ensures written { self.new.has_changed ≡ false }
     {
         self.has_changed = false;
         let Some(alarms) = &mut self.alarms else {
@@ -61,21 +67,15 @@ impl<'a, R: Files<File = File> + Net + Clock + AllocGlobal> Desk<'a, R> {
         let Ok(kept) = self.station.kept(self.rt.alloc()) else {
             return;
         };
-        match keep_at(&mut alarms.shelf, self.rt.alloc(), &kept) {
-            Ok(()) => self.has_lost = false,
-            Err(why) => {
-                if !self.has_lost {
-                    self.loss = Some(why);
-                }
-                self.has_lost = true;
-            }
-        }
+        let kept = keep_at(&mut alarms.shelf, self.rt.alloc(), &kept);
+        self.keepings.note(kept);
     }
 
     // Keeps the alarms as soon as there are others, and looks twice a second at what other desks keep.
-    #[tactic(auto, using(crate::proofs::WorkLemmas::looks_none, crate::proofs::WorkLemmas::looks_then))]
+    #[tactic(auto, using(crate::proofs::WorkLemmas::looks_none, crate::proofs::WorkLemmas::looks_then, crate::proofs::LeaveLemmas::sends_none, crate::proofs::LeaveLemmas::sends_then))]
     pub(super) fn look_at_alarms(&mut self) -> io::Result<()>
-        ensures { OnlyLooks self.old.station self.new.station }
+        ensures looks { OnlyLooks self.old.station self.new.station }
+        ensures sends { OnlySends self.old.station self.new.station self.old.asks.outlet self.new.asks.outlet }
     {
         if self.alarms.is_none() {
             return Ok(());
@@ -94,7 +94,8 @@ impl<'a, R: Files<File = File> + Net + Clock + AllocGlobal> Desk<'a, R> {
     pub fn take_loss(&mut self) -> Option<io::Error>
         ensures station { self.new.station ≡ self.old.station }
         ensures view { self.new.view ≡ self.old.view }
+        ensures nothing { self.new.asks.outlet ≡ self.old.asks.outlet }
     {
-        self.loss.take()
+        self.keepings.take()
     }
 }

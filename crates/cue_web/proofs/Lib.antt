@@ -1,2 +1,3 @@
+pub mod AdmitLemmas
 mod RoundLemmas
 pub mod ServeLemmas

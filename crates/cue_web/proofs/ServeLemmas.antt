@@ -9,28 +9,30 @@ use Rattle.cue_view.specs.declared.view.View.{View}
 use Rattle.cue_web.specs.declared.connection.Asking.{Asking}
 use Rattle.cue_web.specs.declared.connection.Connection.{Connection}
 use Rattle.cue_web.specs.declared.connection.Stage.{Stage}
-use Rattle.cue_web.specs.Serving.{Answers, AsksIn, AsksOnce, IsServed, OnlyAsked, OnlyServed, Serves, Serving, is_asking}
+use Rattle.cue_web.specs.Serving.{Answers, AreAt, AsksIn, AsksOnce, HandsOn, IsServed, OnlyAsked, OnlyServed}
+use Rattle.cue_web.specs.Serving.{Serves, Serving, guard_after, is_asking}
 
 -- ---- one connection
 
 -- it asked, was answered, and asks nothing more
-pub served : (identity : PageIdentity) (g : Guard) (now : ℕ) (c mid c_then : Connection) (old new : Station)
+pub served : (identity : PageIdentity) (g g_then : Guard) (now : ℕ) (c mid c_then : Connection) (old new : Station)
     (v v_then : View) (a : Asking) → AsksIn identity mid.input.items a → is_asking c.stage ≡ true
     → is_asking c_then.stage ≡ false → c_then.input ≡ mid.input → Answers g now a old new v v_then
-    → Serves identity g now c c_then old new v v_then
-served identity g now c mid c_then old new v v_then a came first over same answers =
+    → g_then ≡ guard_after g now a → Serves identity g g_then now c c_then old new v v_then
+served identity g g_then now c mid c_then old new v v_then a came first over same answers counted =
     inl (record {
       asks = a;
       came = subst (λ (bytes : List ℕ). AsksIn identity bytes a) (sym (ap (λ input. input.items) same)) came;
       first = first;
       over = over;
       answers = answers;
+      counted = counted;
     })
 
 -- it asked nothing
 pub unasked : (identity : PageIdentity) (g : Guard) (now : ℕ) (c c_then : Connection) (s : Station) (v : View)
-    → Serves identity g now c c_then s s v v
-unasked identity g now c c_then s v = inr (refl, refl)
+    → Serves identity g g now c c_then s s v v
+unasked identity g now c c_then s v = inr (record { unheard = (refl, refl); uncounted = refl })
 
 -- it asked before
 pub once_first : (old new : Stage) → is_asking old ≡ true → AsksOnce old new
@@ -54,13 +56,14 @@ not-again was true once over = sym (once refl) ∙ over
 not-again was false once over = refl
 
 -- it was served, and goes on with its answer
-pub serves_on : (identity : PageIdentity) (g : Guard) (now : ℕ) (c mid c_then : Connection) (old new : Station)
-    (v v_then : View) → Serves identity g now c mid old new v v_then → AsksOnce mid.stage c_then.stage
-    → c_then.input ≡ mid.input → Serves identity g now c c_then old new v v_then
-serves_on identity g now c mid c_then old new v v_then (inl asked) once same =
-    served identity g now c mid c_then old new v v_then asked.asks asked.came asked.first
-    (not-again (is_asking mid.stage) (is_asking c_then.stage) once.once asked.over) same asked.answers
-serves_on identity g now c mid c_then old new v v_then (inr stays) once same = inr stays
+pub serves_on : (identity : PageIdentity) (g g_then : Guard) (now : ℕ) (c mid c_then : Connection)
+    (old new : Station) (v v_then : View) → Serves identity g g_then now c mid old new v v_then
+    → AsksOnce mid.stage c_then.stage → c_then.input ≡ mid.input
+    → Serves identity g g_then now c c_then old new v v_then
+serves_on identity g g_then now c mid c_then old new v v_then (inl asked) once same =
+    served identity g g_then now c mid c_then old new v v_then asked.asks asked.came asked.first
+    (not-again (is_asking mid.stage) (is_asking c_then.stage) once.once asked.over) same asked.answers asked.counted
+serves_on identity g g_then now c mid c_then old new v v_then (inr nothing) once same = inr nothing
 
 -- ---- one connection after the other
 
@@ -79,6 +82,17 @@ pub served_then : (page : PageIdentity) (first more : List Serving) (old mid new
     → OnlyServed page first old mid → OnlyServed page more mid new → OnlyServed page (first ++ more) old new
 served_then page [] more old mid new a b = looks-first page more old mid new a b
 served_then page (s ∷ first) more old mid new a b = (a.0, a.1, served_then page first more s.new mid new a.2 b)
+
+-- and the lock is handed on from the first to the last
+pub hands_then : (first more : List Serving) (g mid g_then : Guard) → HandsOn first g mid → HandsOn more mid g_then
+    → HandsOn (first ++ more) g g_then
+hands_then [] more g mid g_then a b = subst (λ (x : Guard). HandsOn more x g_then) a b
+hands_then (s ∷ first) more g mid g_then a b = (a.0, hands_then first more s.guard_then mid g_then a.1 b)
+
+-- all at one moment
+pub at_then : (now : ℕ) (first more : List Serving) → AreAt now first → AreAt now more → AreAt now (first ++ more)
+at_then now [] more a b = b
+at_then now (s ∷ first) more a b = (a.0, at_then now first more a.1 b)
 
 -- ---- whatever the page served
 

@@ -4,7 +4,7 @@ use Rattle.cue_desk_run.specs.Working.{HearsIf, OnlyLooks, Stays}
 use Rattle.cue_request.specs.declared.identity.PageIdentity.{PageIdentity}
 use Rattle.cue_request.specs.declared.lock.Guard.{Guard}
 use Rattle.cue_request.specs.declared.request.Refusal.{Refusal}
-use Rattle.cue_request.specs.Locks.{said_at, verdict_on}
+use Rattle.cue_request.specs.Locks.{after_press, said_at, verdict_on}
 use Rattle.cue_request.specs.Presses.{body_of}
 use Rattle.cue_request.specs.Requests.{IsCommand}
 use Rattle.cue_station.specs.declared.heard.Heard.TheVariants as heard
@@ -47,6 +47,12 @@ Answers g now (asking.Press (Some p)) old new v v_then =
     HearsUnless (verdict_on p.button g now p.said) p old new v v_then
 Answers g now _ old new v v_then = Stays old new v v_then
 
+-- the guard of the lock that this asking leaves: a press is counted as its word is right or wrong, whether it is let
+-- through or refused, and nothing else is counted
+abbrev pub guard_after : Guard → ℕ → Asking → Guard
+guard_after g now (asking.Press (Some p)) = after_press p.button g now p.said
+guard_after g now _ = g
+
 -- ---- one connection
 
 -- its request is awaited
@@ -62,30 +68,44 @@ is_here_at _ = true
 abbrev pub is_here : Connection → Bool
 is_here c = is_here_at c.stage
 
+-- One that has just come: its request is awaited, and nothing of it was heard.
+pub record IsFresh (c : Connection) : Type 0 where
+  pub asks : is_asking c.stage ≡ true
+  pub unheard : c.input.items ≡ []
+
 -- One that asks no more does not ask again.
 pub record AsksOnce (old new : Stage) : Type 0 where
   pub once : is_asking new ≡ true → is_asking old ≡ true
 
--- It was answered what it asked: a request that came whole, and it asks nothing more.
-pub record ServesAsked (identity : PageIdentity) (g : Guard) (now : ℕ) (c c_then : Connection) (old new : Station)
-    (v v_then : View) : Type 0 where
+-- It was answered what it asked: a request that came whole, and it asks nothing more. The lock counts what it says.
+pub record ServesAsked (identity : PageIdentity) (g g_then : Guard) (now : ℕ) (c c_then : Connection)
+    (old new : Station) (v v_then : View) : Type 0 where
   pub asks : Asking
   pub came : AsksIn identity c_then.input.items asks
   pub first : is_asking c.stage ≡ true
   pub over : is_asking c_then.stage ≡ false
   pub answers : Answers g now asks old new v v_then
+  pub counted : g_then ≡ guard_after g now asks
 
--- a connection is served: it asked, or the desk heard nothing of it
-abbrev pub Serves : PageIdentity → Guard → ℕ → (c c_then : Connection) → (old new : Station) → (v v_then : View) → Type 0
-Serves identity g now c c_then old new v v_then =
-    ServesAsked identity g now c c_then old new v v_then ⊎ Stays old new v v_then
+-- It was not answered: the desk heard nothing of it, and the lock counts nothing.
+pub record ServesNothing (g g_then : Guard) (old new : Station) (v v_then : View) : Type 0 where
+  pub unheard : Stays old new v v_then
+  pub uncounted : g_then ≡ g
+
+-- a connection is served: it asked, or nothing came of it
+abbrev pub Serves : PageIdentity → (g g_then : Guard) → ℕ → (c c_then : Connection) → (old new : Station)
+    → (v v_then : View) → Type 0
+Serves identity g g_then now c c_then old new v v_then =
+    ServesAsked identity g g_then now c c_then old new v v_then ⊎ ServesNothing g g_then old new v v_then
 
 -- ---- one connection after the other
 
--- A connection was served: at a moment, with this lock; what it was and became, and what the desk was and became.
+-- A connection was served at a moment: by which guard of the lock, and which one it left; what the connection was and
+-- became, and what the desk was and became.
 pub record Serving : Type 0 where
   pub at : ℕ
   pub guard : Guard
+  pub guard_then : Guard
   pub before : Connection
   pub after : Connection
   pub old : Station
@@ -95,7 +115,7 @@ pub record Serving : Type 0 where
 
 -- What the desk heard of it is what its own bytes ask and its lock lets through, and it does not ask again.
 pub record IsServed (identity : PageIdentity) (s : Serving) : Type 0 where
-  pub serves : Serves identity s.guard s.at s.before s.after s.old s.new s.view s.view_then
+  pub serves : Serves identity s.guard s.guard_then s.at s.before s.after s.old s.new s.view s.view_then
   pub once : AsksOnce s.before.stage s.after.stage
 
 -- the desk heard nothing but looks, and these connections, which were served one after the other
@@ -104,6 +124,16 @@ OnlyServed identity [] old new = OnlyLooks old new
 OnlyServed identity (s ∷ more) old new =
     OnlyLooks old s.old × IsServed identity s × OnlyServed identity more s.new new
 
+-- the lock is handed on: each connection is judged by the guard that the one before it left, from this guard to that
+abbrev pub HandsOn : List Serving → (g g_then : Guard) → Type 0
+HandsOn [] g g_then = g_then ≡ g
+HandsOn (s ∷ more) g g_then = (s.guard ≡ g) × HandsOn more s.guard_then g_then
+
+-- each was served at this moment
+abbrev pub AreAt : ℕ → List Serving → Type 0
+AreAt now [] = Unit {0}
+AreAt now (s ∷ more) = (s.at ≡ now) × AreAt now more
+
 -- Whatever the page served: the desk heard nothing but looks and connections that were served, and the page is where it
 -- was.
 pub record OnlyAsked (page page_then : PageIdentity) (old new : Station) : Type 0 where
@@ -111,16 +141,21 @@ pub record OnlyAsked (page page_then : PageIdentity) (old new : Station) : Type 
   pub heard : OnlyServed page servings old new
   pub identity : page_then ≡ page
 
--- Each of these connections was served, once and in order, and they were left like this. Nothing else was heard.
-pub record ServesEach (page page_then : PageIdentity) (here left : List Connection) (old new : Station) : Type 0 where
+-- Each of these connections was served at this moment, once and in order, and they were left like this. Nothing else
+-- was heard, and the lock was handed on from each to the next.
+pub record ServesEach (page page_then : PageIdentity) (g g_then : Guard) (now : ℕ) (here left : List Connection)
+    (old new : Station) : Type 0 where
   pub servings : List Serving
+  pub moment : AreAt now servings
+  pub lock : HandsOn servings g g_then
   pub each : map (λ (s : Serving). s.before) servings ≡ here
   pub leaves : map (λ (s : Serving). s.after) servings ≡ left
   pub heard : OnlyServed page servings old new
   pub identity : page_then ≡ page
 
 -- A round: each connection that is here is served, and those that are still there stay as they were left.
-pub record HasRound (page page_then : PageIdentity) (here here_then : List Connection) (old new : Station) : Type 0 where
+pub record HasRound (page page_then : PageIdentity) (g g_then : Guard) (now : ℕ) (here here_then : List Connection)
+    (old new : Station) : Type 0 where
   pub left : List Connection
-  pub served : ServesEach page page_then here left old new
+  pub served : ServesEach page page_then g g_then now here left old new
   pub stay : here_then ≡ filter is_here left

@@ -1,7 +1,7 @@
 //! One connection to the page: it asks once, is answered, and is closed.
 ghost use Rattle.std.specs.Prelude.{◌≡◌, ◌≤◌, false, true, length, option_map, IfOk, IfSome};
 ghost use Rattle.cue_request.specs.Requests.{IsCommand, OnCommand};
-ghost use Rattle.cue_web.specs.Serving.{AsksIn, AsksOnce, IsPressIn, is_asking, is_here};
+ghost use Rattle.cue_web.specs.Serving.{AsksIn, AsksOnce, IsFresh, IsPressIn, is_asking, is_here};
 
 use cue_request::identity::PageIdentity;
 use cue_request::lock::{Said, said_at};
@@ -171,7 +171,9 @@ fn ends_head(input: &[u8], before: usize) -> bool {
 
 impl Connection {
     /// A connection that begins now.
-    pub fn new(alloc: Global, stream: TcpStream, now: u64) -> Connection {
+    pub fn new(alloc: Global, stream: TcpStream, now: u64) -> Connection
+        ensures { IsFresh result }
+    {
         Connection {
             stream,
             stage: Stage::Asking,

@@ -1,6 +1,7 @@
 //! The connections to the page. None of them can keep the others waiting: each has a second, and if there are many
 //! the one that has waited longest gives way.
-ghost use Rattle.std.specs.Prelude.{◌≡◌, filter};
+ghost use Rattle.std.specs.Prelude.{◌≡◌, ◌+◌, ◌≤◌, [], filter, length, vec_capacity, IfOk};
+ghost use Rattle.cue_web.specs.Admitting.{Admits, Come, newest};
 ghost use Rattle.cue_web.specs.Serving.{AsksOnce, HasRound, OnlyAsked, Serves, ServesEach, is_here};
 
 use crate::connection::Connection;
@@ -51,8 +52,8 @@ fn serve_one<R: Files<File = File> + Net + Clock + AllocGlobal>(
     pages: &mut Pages<'_>,
     now: u64,
 )
-    ensures serves { Serves pages.old.identity pages.old.guard now connection.old connection.new desk.old.station
-        desk.new.station desk.old.view desk.new.view }
+    ensures serves { Serves pages.old.identity pages.old.guard pages.new.guard now connection.old connection.new
+        desk.old.station desk.new.station desk.old.view desk.new.view }
     ensures once { AsksOnce connection.old.stage connection.new.stage }
     ensures identity { pages.new.identity ≡ pages.old.identity }
 {
@@ -74,8 +75,8 @@ fn serve_next<R: Files<File = File> + Net + Clock + AllocGlobal>(
     pages: &mut Pages<'_>,
     now: u64,
 )
-    ensures serves { Serves pages.old.identity pages.old.guard now connection.old connection.new desk.old.station
-        desk.new.station desk.old.view desk.new.view }
+    ensures serves { Serves pages.old.identity pages.old.guard pages.new.guard now connection.old connection.new
+        desk.old.station desk.new.station desk.old.view desk.new.view }
     ensures once { AsksOnce connection.old.stage connection.new.stage }
     ensures identity { pages.new.identity ≡ pages.old.identity }
 {
@@ -91,55 +92,79 @@ fn serve_each<R: Files<File = File> + Net + Clock + AllocGlobal>(
     pages: &mut Pages<'_>,
     now: u64,
 )
-    ensures { ServesEach pages.old.identity pages.new.identity here.old.items here.new.items desk.old.station
-        desk.new.station }
+    ensures each { ServesEach pages.old.identity pages.new.identity pages.old.guard pages.new.guard now here.old.items
+        here.new.items desk.old.station desk.new.station }
+    ensures room { vec_capacity here.new ≡ vec_capacity here.old }
 {
     for connection in here.iter_mut() {
         serve_next(alloc, connection, desk, pages, now);
     }
 }
 
+// Sends away those that have waited longest, if more are here than may be: they stand in the order in which they came.
+fn make_room(here: &mut Vec<Connection>)
+    ensures newest { here.new.items ≡ newest here.old.items }
+    ensures room { vec_capacity here.new ≡ vec_capacity here.old }
+{
+    let surplus = here.len().saturating_sub(MAX_CONNECTIONS);
+    for _ in 0..surplus {
+        let _ = here.remove(0);
+    }
+}
+
 // Drops those that are gone.
 fn drop_gone(here: &mut Vec<Connection>)
-    ensures { here.new.items ≡ filter is_here here.old.items }
+    ensures stay { here.new.items ≡ filter is_here here.old.items }
+    ensures room { vec_capacity here.new ≡ vec_capacity here.old }
 {
     here.retain(|connection| connection.is_here());
 }
 
 impl Connections {
-    /// Listens at this port of 127.0.0.1 alone.
+    /// Listens at this port of 127.0.0.1 alone. Nobody is here yet.
     pub fn new<R: Net + AllocGlobal>(
         rt: &R,
         registry: &Registry,
         port: u16,
-    ) -> io::Result<Connections> {
+    ) -> io::Result<Connections>
+        ensures nobody { IfOk result (λ connections. connections.here.items ≡ []) }
+        ensures room { IfOk result (λ connections.
+            MAX_CONNECTIONS + MAX_ADMITTED ≤ vec_capacity connections.here) }
+    {
         let address = SocketAddr::new(IpAddr::V4(Ipv4Addr::LOCALHOST), port);
         let mut listener = TcpListener::bind(rt, address)?;
         registry.register(&mut listener, LISTENER, Interest::READABLE)?;
         Ok(Connections {
             listener,
-            here: Vec::with_capacity(rt.alloc(), MAX_CONNECTIONS)?,
+            here: Vec::with_capacity(rt.alloc(), MAX_CONNECTIONS + MAX_ADMITTED)?,
         })
     }
 
-    // Sends away the one that has waited longest, if there is no room for one more. They stand in the order in which
-    // they came.
-    fn make_room(&mut self) {
-        if self.here.len() >= MAX_CONNECTIONS {
-            let _ = self.here.remove(0);
-        }
-    }
-
-    /// Takes the connections that wait. Answers whether more of them may: then the next round must not be waited for.
-    pub fn admit(&mut self, alloc: Global, registry: &Registry, now: u64) -> bool {
+    // Takes those that wait, one after the other, and drops one for which there is no memory. Answers whether more may
+    // wait.
+    fn take_waiting(&mut self, alloc: Global, registry: &Registry, now: u64) -> bool
+        ensures come { Come (vec_capacity self.old.here) self.old.here.items self.new.here.items result }
+        ensures room { vec_capacity self.old.here ≤ vec_capacity self.new.here }
+    {
         for _ in 0..MAX_ADMITTED {
             let Some(stream) = next_stream(&self.listener, registry) else {
                 return false;
             };
-            self.make_room();
             let _ = self.here.push(Connection::new(alloc, stream, now));
         }
         true
+    }
+
+    /// Takes the connections that wait. Answers whether more of them may: then the next round must not be waited for.
+    #[tactic(auto, using(crate::proofs::AdmitLemmas::admits, crate::proofs::AdmitLemmas::newest_few))]
+    pub fn admit(&mut self, alloc: Global, registry: &Registry, now: u64) -> bool
+        ensures admits { Admits (vec_capacity self.old.here) self.old.here.items self.new.here.items result }
+        ensures few { length self.new.here.items ≤ MAX_CONNECTIONS }
+        ensures room { vec_capacity self.old.here ≤ vec_capacity self.new.here }
+    {
+        let may_wait = self.take_waiting(alloc, registry, now);
+        make_room(&mut self.here);
+        may_wait
     }
 
     /// One round over all connections. Each is served once, and none asks again that has asked; the desk hears no other
@@ -152,9 +177,10 @@ impl Connections {
         pages: &mut Pages<'_>,
         now: u64,
     )
-        ensures round { HasRound pages.old.identity pages.new.identity self.old.here.items self.new.here.items
-            desk.old.station desk.new.station }
+        ensures round { HasRound pages.old.identity pages.new.identity pages.old.guard pages.new.guard now
+            self.old.here.items self.new.here.items desk.old.station desk.new.station }
         ensures asked { OnlyAsked pages.old.identity pages.new.identity desk.old.station desk.new.station }
+        ensures room { vec_capacity self.new.here ≡ vec_capacity self.old.here }
     {
         serve_each(alloc, &mut self.here, desk, pages, now);
         drop_gone(&mut self.here);

@@ -7,8 +7,10 @@
 //!
 //! Why it is so:
 //! - Many connections side by side, each for a second: a browser opens connections before it needs them and says
-//!   nothing on them. At most 128 are open, each with at most 9 kB. If there is no room for one more, the one that has
+//!   nothing on them. At most 128 stay open, each with at most 9 kB. If there is no room for one more, the one that has
 //!   waited longest is closed; each is heard before that, so hundreds that say nothing keep nobody waiting.
+//! - What the lock counts of wrong words goes from each connection to the next: nobody tries more words by opening more
+//!   of them.
 //! - Who closes only its own way of speaking, as `nc` does, is answered, if its request came whole.
 //! - After an answer the rest of the request is read and dropped, for a second at most: a socket that is closed with
 //!   bytes unread resets the connection, and the answer may be lost.

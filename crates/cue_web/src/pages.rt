@@ -1,7 +1,7 @@
 //! What the page is answered: itself, the newest view, the show file, and the view that a press has made.
-ghost use Rattle.std.specs.Prelude.{◌≡◌};
-ghost use Rattle.cue_request.specs.Locks.{verdict_on};
-ghost use Rattle.cue_web.specs.Serving.{Answers, HearsOnce, HearsUnless};
+ghost use Rattle.std.specs.Prelude.{◌≡◌, IfOk};
+ghost use Rattle.cue_request.specs.Locks.{after_press, untouched, verdict_on};
+ghost use Rattle.cue_web.specs.Serving.{Answers, HearsOnce, HearsUnless, guard_after};
 ghost use Rattle.cue_web.specs.declared.connection.Asking.TheVariants as asking;
 
 use crate::connection::{Answer, Asking, Pressed};
@@ -82,13 +82,16 @@ fn names_of<'n>(file: Option<&'n ShowFile>, together: &'n [Group], port: u16) ->
 }
 
 impl<'a> Pages<'a> {
-    /// a page of this identity, with what stands beside the views.
+    /// A page of this identity, with what stands beside the views. No wrong word of its lock has come.
     pub fn new(
         alloc: Global,
         identity: PageIdentity<'a>,
         token: &str,
         beside: Beside,
-    ) -> Result<Pages<'a>, AllocError> {
+    ) -> Result<Pages<'a>, AllocError>
+        ensures identity { IfOk result (λ pages. pages.identity ≡ identity.entry) }
+        ensures guard { IfOk result (λ pages. pages.guard ≡ untouched) }
+    {
         let (page, policy) = (page_text(alloc, token)?, policy(alloc)?);
         let page = answer(
             alloc,
@@ -111,6 +114,7 @@ impl<'a> Pages<'a> {
     /// From now on the names are those of this show file.
     pub fn put_file(&mut self, file: ShowFile)
         ensures identity { self.new.identity ≡ self.old.identity }
+        ensures guard { self.new.guard ≡ self.old.guard }
     {
         self.beside.file = Some(file);
         self.drawn = None;
@@ -119,6 +123,7 @@ impl<'a> Pages<'a> {
     /// From now on this is told of the show file.
     pub fn tell(&mut self, told: Option<String>)
         ensures identity { self.new.identity ≡ self.old.identity }
+        ensures guard { self.new.guard ≡ self.old.guard }
     {
         if self.told != told {
             self.told = told;
@@ -145,6 +150,7 @@ impl<'a> Pages<'a> {
         alloc: Global,
     ) -> Result<(), AllocError>
         ensures identity { self.new.identity ≡ self.old.identity }
+        ensures guard { self.new.guard ≡ self.old.guard }
     {
         let view = desk.view();
         if self.drawn == Some(view.number) {
@@ -169,6 +175,7 @@ impl<'a> Pages<'a> {
         alloc: Global,
     ) -> Result<String, AllocError>
         ensures identity { self.new.identity ≡ self.old.identity }
+        ensures guard { self.new.guard ≡ self.old.guard }
     {
         self.draw(desk, alloc)?;
         json_answer(alloc, Outcome::Done, self.text.as_str())
@@ -183,6 +190,7 @@ impl<'a> Pages<'a> {
     ) -> Result<String, AllocError>
         ensures hears { HearsOnce pressed.now desk.old.station desk.new.station desk.old.view desk.new.view }
         ensures identity { self.new.identity ≡ self.old.identity }
+        ensures guard { self.new.guard ≡ self.old.guard }
     {
         if desk.press(pressed.view, pressed.button) {
             self.view_answer(desk, alloc)
@@ -202,6 +210,7 @@ impl<'a> Pages<'a> {
         ensures hears { HearsUnless (verdict_on pressed.now.button self.old.guard now pressed.now.said) pressed.now
             desk.old.station desk.new.station desk.old.view desk.new.view }
         ensures identity { self.new.identity ≡ self.old.identity }
+        ensures guard { self.new.guard ≡ after_press pressed.now.button self.old.guard now pressed.now.said }
     {
         match self.guard.judge(pressed.button, now, pressed.said) {
             Some(refusal) => refused_answer(alloc, refusal),
@@ -220,6 +229,7 @@ impl<'a> Pages<'a> {
         ensures answers { Answers self.old.guard now (asking.Press press.now) desk.old.station desk.new.station
             desk.old.view desk.new.view }
         ensures identity { self.new.identity ≡ self.old.identity }
+        ensures guard { self.new.guard ≡ guard_after self.old.guard now (asking.Press press.now) }
     {
         match press {
             Some(pressed) => self.pressed_answer(desk, alloc, pressed, now),
@@ -252,6 +262,7 @@ impl<'a> Pages<'a> {
         ensures answers { Answers self.old.guard now asking.now desk.old.station desk.new.station desk.old.view
             desk.new.view }
         ensures identity { self.new.identity ≡ self.old.identity }
+        ensures guard { self.new.guard ≡ guard_after self.old.guard now asking.now }
     {
         let text = match asking {
             Asking::Page => return Ok(Answer::Page),

@@ -7,6 +7,6 @@ pub use reading::buttons::Buttons;
 pub use reading::line;
 pub use reading::pressing::Pressed;
 pub use reading::rehearsing::{Flags, Rehearsal, with_flags};
-pub use reading::reporting::{Form, Report};
+pub use reading::reporting::{End, Form, Report};
 pub use reading::web::{LockWord, PageUse, Web};
 pub use reading::words::{Environment, Line, Watched};

@@ -1,3 +1,4 @@
+mod CsvLemmas
 pub mod DrawingLemmas
 pub mod FailureLemmas
 pub mod LawLemmas

@@ -1,5 +1,5 @@
 -- How attempts are drawn.
-use Rattle.std.specs.Prelude.{◌≡◌, ℕ, List, [], ◌∷◌, ◌++◌, codes, decimal, length, Option, Some, None, String, string_bytes}
+use Rattle.std.specs.Prelude.{◌≡◌, ◌==◌, if◌then◌else◌, ℕ, List, [], ◌∷◌, ◌++◌, codes, decimal, length, Option, Some, None, String, string_bytes}
 use Rattle.std.specs.declared.alloc.Global.{Global}
 use Rattle.cue_exchange.specs.declared.attempt.Outcome.{Outcome}
 use Rattle.cue_exchange.specs.declared.attempt.Outcome.TheVariants as outcome
@@ -7,10 +7,14 @@ use Rattle.cue_html.specs.Html.{row_of}
 use Rattle.cue_report.specs.declared.attempt.Attempt.{Attempt}
 use Rattle.cue_report.specs.declared.attempt.Ended.{Ended}
 
--- cells that begin with this number, with so many others behind it
+-- cells that begin with this number, with so many others after it
 abbrev pub IsRow : ℕ → ℕ → List (String Global) → Type 0
 IsRow number others [] = ⊥
 IsRow number others (first ∷ rest) = (string_bytes first ≡ decimal number) × (length rest ≡ others)
+
+-- what stands over the page: what the show is called, if that is said
+abbrev pub title_by : List ℕ → List ℕ
+title_by title = if length title == 0 then codes "Show report" else title
 
 -- how a row begins that ended so
 abbrev pub class_by : Outcome → List ℕ
@@ -29,8 +33,12 @@ pub record IsDrawn (a : Attempt) (text : List ℕ) : Type 0 where
   pub row : IsRow a.number 7 cells
   pub drawn : text ≡ row_of (class_of a.ended) cells
 
+-- the text has a piece for each of the attempts, drawn so, once, in their order, and nothing else
+abbrev pub AreDrawnBy : (Attempt → List ℕ → Type 0) → List Attempt → List ℕ → Type 0
+AreDrawnBy IsOne [] text = text ≡ []
+AreDrawnBy IsOne (a ∷ rest) text =
+    (piece : List ℕ) × (others : List ℕ) × (text ≡ piece ++ others) × IsOne a piece × AreDrawnBy IsOne rest others
+
 -- the text has a row for each of the attempts, once, in their order, and nothing else
 abbrev pub AreDrawn : List Attempt → List ℕ → Type 0
-AreDrawn [] text = text ≡ []
-AreDrawn (a ∷ rest) text =
-    (row : List ℕ) × (others : List ℕ) × (text ≡ row ++ others) × IsDrawn a row × AreDrawn rest others
+AreDrawn attempts text = AreDrawnBy IsDrawn attempts text

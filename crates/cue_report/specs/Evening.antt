@@ -1,18 +1,36 @@
--- What an evening keeps, and which part of its day is told.
-use Rattle.std.specs.Prelude.{ℕ, ℤ, ◌%◌, pos, Bool, List, length, nat_lt, Option, unwrap_or}
-use Rattle.cue_report.specs.Dates.{shown_at}
+-- What an evening keeps, and how its times are shown.
+use Rattle.std.specs.Prelude.{ℕ, ℤ, ◌+◌, ◌++◌, min, Bool, not, if◌then◌else◌, List, [], ◌∷◌, length, nat_lt}
+use Rattle.std.specs.Prelude.{Option, Some, None, unwrap_or}
 use Rattle.cue_report.specs.Range.{has}
 use Rattle.cue_report.specs.declared.dates.Times.{Times}
+use Rattle.cue_report.specs.declared.evening.Counts.{Counts}
 use Rattle.cue_report.specs.declared.range.Range.{Range}
 
 -- there is room to keep one more
 abbrev pub has_room : {A : Type 0} → List A → Bool
 has_room kept = nat_lt (length kept) 1000
 
+-- what is kept with one more, if there is room
+abbrev pub kept_with : {A : Type 0} → List A → A → List A
+kept_with kept item = if has_room kept then kept ++ item ∷ [] else kept
+
+-- so many more; a count stops at the end of its numbers
+abbrev pub more_by : ℕ → ℕ → ℕ
+more_by times count = min (count + times) 18446744073709551615
+
+-- one more line that is none of the log
+abbrev pub with_other : Counts → Counts
+with_other c = record c { others = more_by 1 c.others }
+
+-- one more line of another part of the evening
+abbrev pub with_outside : Counts → Counts
+with_outside c = record c { outside = more_by 1 c.outside }
+
+-- a line is of another part of the evening: by its date, or as the line before it, if it has none
+abbrev pub is_outside : Range → ℤ → Bool → Option ℕ → Bool
+is_outside range ahead before None = before
+is_outside range ahead before (Some at) = not (has range ahead at)
+
 -- how times are shown: by the day of the first line
 abbrev pub times : ℤ → Option ℕ → Times
 times ahead first = record { ahead = ahead; first = unwrap_or first 0 }
-
--- the clock on the wall shows a time of the part that is told
-abbrev pub is_told : Range → ℤ → ℕ → Bool
-is_told range ahead at = has range (shown_at ahead at % 86400)

@@ -1,11 +1,14 @@
 pub mod Asking
+pub mod Cells
 pub mod Csv
 pub mod Dates
 pub mod Drawing
+pub mod Ends
 pub mod Evening
 pub mod Following
 pub mod Laws
 pub mod Marks
+pub mod Names
 pub mod Picture
 pub mod Range
 pub mod Reading
@@ -13,3 +16,4 @@ pub mod Running
 pub mod Seen
 pub mod Summary
 pub mod Telling
+pub mod Writing

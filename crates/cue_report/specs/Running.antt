@@ -1,5 +1,5 @@
 -- How long the show ran.
-use Rattle.std.specs.Prelude.{ℕ, ◌-◌, ◌++◌, max, min, List, [], ◌∷◌, Option, Some, None, option_to_list}
+use Rattle.std.specs.Prelude.{ℕ, ◌+◌, ◌-◌, ◌++◌, max, min, List, [], ◌∷◌, Option, Some, None, option_to_list}
 use Rattle.cue_report.specs.declared.attempt.Attempt.{Attempt}
 use Rattle.cue_report.specs.declared.attempt.Ended.{Ended}
 use Rattle.cue_report.specs.declared.attempt.Moment.{Moment}
@@ -33,6 +33,16 @@ acts_up_to (Some m) next = option_to_list (act_between m next)
 abbrev pub acts_after : Option Mark → List Mark → List Act
 acts_after last [] = []
 acts_after last (m ∷ rest) = acts_up_to last m ++ acts_after (Some m) rest
+
+-- the seconds of an act that were played: none of an interval
+abbrev pub played_in : Act → ℕ
+played_in (Played stretch) = seconds stretch
+played_in (Interval stretch) = 0
+
+-- the seconds that were played in acts, beside so many; they stop at the end of their numbers
+abbrev pub played_of : ℕ → List Act → ℕ
+played_of sum [] = sum
+played_of sum (act ∷ rest) = played_of (min (sum + played_in act) 18446744073709551615) rest
 
 -- a run that also has this GO and this end
 abbrev pub longer : Option Stretch → ℕ → ℕ → Stretch

@@ -1,6 +1,6 @@
 -- What the report says, in words.
 use Rattle.std.specs.Prelude.{◌≡◌, ◌==◌, ◌++◌, ℕ, Bool, true, false, if◌then◌else◌, List, [], codes, decimal, length, Option, Some, None}
-use Rattle.std.specs.Prelude.{nat_eq}
+use Rattle.std.specs.Prelude.{⊤, nat_eq}
 use Rattle.cue_exchange.specs.Outcomes.{outcome_number}
 use Rattle.cue_exchange.specs.declared.attempt.Outcome.{Outcome}
 use Rattle.cue_log_lines.specs.declared.line.Count.{Count}
@@ -8,6 +8,8 @@ use Rattle.cue_log_lines.specs.declared.line.Span.{Span}
 use Rattle.cue_words.specs.Answered.{outcome_words}
 use Rattle.cue_report.specs.Following.{span}
 use Rattle.cue_report.specs.declared.attempt.Ended.{Ended}
+use Rattle.cue_report.specs.declared.attempt.Who.{Who}
+use Rattle.cue_report.specs.declared.attempt.Who.TheVariants as who
 use Rattle.cue_report.specs.declared.course.Course.{Course}
 use Rattle.cue_report.specs.declared.course.Fate.{Fate}
 use Rattle.cue_report.specs.declared.course.Fate.TheVariants as fate
@@ -96,7 +98,18 @@ more_words more = codes "and " ++ (decimal more ++ codes " more")
 unfoldable pub some_words : ℕ → List ℕ → List ℕ
 some_words count kind = if count == 0 then [] else codes ", " ++ (decimal count ++ (codes " " ++ kind))
 
+-- so many attempts without an end, if there is one
+unfoldable pub unended_words : ℕ → List ℕ
+unended_words count = if count == 0 then [] else codes ", " ++ (decimal count ++ codes " without an end in this log")
+
 -- how long something took that the log says to a tenth of a second
 abbrev pub after_words : Option Span → List ℕ
 after_words None = []
 after_words (Some span) = decimal span.seconds ++ (codes "." ++ decimal span.tenths)
+
+-- who asked: of a port its number, and nothing, if the log does not say
+abbrev pub IsAsker : Who → List ℕ → Type 0
+IsAsker (who.Device device) text = ⊤
+IsAsker (who.Named name) text = ⊤
+IsAsker (who.Port port) text = text ≡ codes "port " ++ decimal port
+IsAsker who.Unseen text = text ≡ []

@@ -1,7 +1,8 @@
 //! The columns of the table of attempts: a row for each of them, for a spreadsheet and for the page.
-ghost use Rattle.std.specs.Prelude.{◌≡◌, IfOk, length, string_bytes};
-ghost use Rattle.std.specs.Option.{option_map};
+ghost use Rattle.std.specs.Prelude.{◌≡◌, [], IfNone, IfOk, length, string_bytes};
+ghost use Rattle.cue_report.specs.Cells.{Says};
 ghost use Rattle.cue_report.specs.Drawing.{IsRow};
+ghost use Rattle.cue_report.specs.Names.{name_of};
 ghost use Rattle.cue_report.specs.Telling.{after_words};
 
 use crate::attempt::{Attempt, Ended, Moment};
@@ -30,7 +31,7 @@ pub enum Column {
     Devices,
 }
 
-/// The columns of the table for a spreadsheet, behind the number of the attempt, and what stands over them.
+/// The columns of the table for a spreadsheet, after the number of the attempt, and what stands over them.
 pub const TABLE: [(Column, &str); 13] = [
     (Column::Cue, "cue"),
     (Column::Name, "name"),
@@ -58,36 +59,30 @@ pub const PAGE: [(Column, &str); 7] = [
     (Column::Devices, "devices"),
 ];
 
-// When something was done.
-fn at_of(moment: Option<Moment>) -> Option<u64>
-    ensures { result ≡ option_map (λ m. m.at) moment }
+// The time of day at which something was done; empty if it was not.
+fn clock(told: Told<'_>, moment: Option<Moment>) -> Words
+    ensures { IfOk result (λ text. IfNone moment (string_bytes text ≡ [])) }
 {
     match moment {
-        Some(moment) => Some(moment.at),
-        None => None,
+        Some(moment) => told.moment(moment.at),
+        None => Ok(String::new(told.alloc)),
     }
 }
 
-// When an attempt ended.
-fn ended_at(ended: Option<Ended>) -> Option<u64>
-    ensures { result ≡ option_map (λ e. e.at) ended }
+// The time of day at which an attempt ended; empty if the log does not have its end.
+fn end_clock(told: Told<'_>, ended: Option<Ended>) -> Words
+    ensures { IfOk result (λ text. IfNone ended (string_bytes text ≡ [])) }
 {
     match ended {
-        Some(ended) => Some(ended.at),
-        None => None,
-    }
-}
-
-// The time of day of a second; empty if there is none.
-fn clock(told: Told<'_>, at: Option<u64>) -> Words {
-    match at {
-        Some(at) => told.moment(at),
+        Some(ended) => told.moment(ended.at),
         None => Ok(String::new(told.alloc)),
     }
 }
 
 // Who asked for it; empty if it was not done.
-fn asker(told: Told<'_>, moment: Option<Moment>) -> Words {
+fn asker(told: Told<'_>, moment: Option<Moment>) -> Words
+    ensures { IfOk result (λ text. IfNone moment (string_bytes text ≡ [])) }
+{
     match moment {
         Some(moment) => told.who(moment.by),
         None => Ok(String::new(told.alloc)),
@@ -103,7 +98,9 @@ fn cue(told: Told<'_>, attempt: &Attempt) -> Words {
 }
 
 // Its name; empty if it has none.
-fn name(told: Told<'_>, attempt: &Attempt) -> Words {
+fn name(told: Told<'_>, attempt: &Attempt) -> Words
+    ensures { IfOk result (λ text. string_bytes text ≡ name_of told.entry.names.now attempt.now.cue) }
+{
     match attempt.cue {
         Some(cue) => String::from_str(told.alloc, told.names.cue_name(&cue)),
         None => Ok(String::new(told.alloc)),
@@ -133,17 +130,19 @@ fn devices(told: Told<'_>, attempt: &Attempt) -> Words {
 }
 
 // What a column says of an attempt; empty if there is nothing to say.
-fn cell_of(told: Told<'_>, attempt: &Attempt, column: Column) -> Words {
+fn cell_of(told: Told<'_>, attempt: &Attempt, column: Column) -> Words
+    ensures { IfOk result (λ text. Says told.entry.names.now attempt.now column (string_bytes text)) }
+{
     match column {
         Column::Cue => cue(told, attempt),
         Column::Name => name(told, attempt),
-        Column::Begun => clock(told, at_of(attempt.begun)),
+        Column::Begun => clock(told, attempt.begun),
         Column::BegunBy => asker(told, attempt.begun),
-        Column::Given => clock(told, at_of(attempt.given)),
+        Column::Given => clock(told, attempt.given),
         Column::GivenBy => asker(told, attempt.given),
-        Column::GivenUp => clock(told, at_of(attempt.given_up)),
+        Column::GivenUp => clock(told, attempt.given_up),
         Column::GivenUpBy => asker(told, attempt.given_up),
-        Column::Ended => clock(told, ended_at(attempt.ended)),
+        Column::Ended => end_clock(told, attempt.ended),
         Column::How => String::from_str(told.alloc, ending_words(attempt.ended)),
         Column::After => after(told.alloc, attempt.after),
         Column::Why => attempt.why.clone(),

@@ -55,7 +55,7 @@ fn piece_of(alloc: Global, at: u64, from: usize, to: usize) -> Result<String, Al
 }
 
 /// How many seconds a day has.
-const DAY: u64 = 86_400;
+pub const DAY: u64 = 86_400;
 
 // The day of the week of a day, counted from the first one of 1970, which was a Thursday.
 fn weekday(day: u64) -> &'static str
@@ -115,11 +115,11 @@ impl Times {
     }
 }
 
-/// The second of the day that a clock shows at a second since 1970.
-pub fn of_day(shown: u64) -> u64
-    ensures { result ≡ shown % 86400 }
+/// The second of the day that a clock shows which is so many seconds ahead of UTC, at a second since 1970.
+pub fn clock_at(ahead: i64, at: u64) -> u64
+    ensures { result ≡ spec.clock_at ahead at }
 {
-    shown % DAY
+    at.saturating_add_signed(ahead) % DAY
 }
 
 /// When something was printed: `2026-11-24, 12:13 UTC`.

@@ -1,7 +1,9 @@
 //! The evening: what the lines of a log say together.
-ghost use Rattle.std.specs.Prelude.{◌≡◌, ◌<◌, ◌≤◌, ◌++◌, ◌∷◌, ◌+◌, [], OnOk, if◌then◌else◌, length, map};
+ghost use Rattle.std.specs.Prelude.{◌≡◌, [], OnOk, if◌then◌else◌};
 ghost use Rattle.cue_report.specs.Evening as spec;
+ghost use Rattle.cue_report.specs.Marks.{within};
 ghost use Rattle.cue_report.specs.Picture.{nothing, picture};
+ghost use Rattle.cue_report.specs.Range.{has};
 
 mod asking;
 mod counting;
@@ -13,8 +15,8 @@ mod replies;
 use crate::attempt::Who;
 use crate::attempts::Attempts;
 use crate::cutting::Cutter;
-use crate::dates::{Times, of_day};
-use crate::marks::{Mark, read_mark};
+use crate::dates::Times;
+use crate::marks::{Mark, Marks};
 use crate::range::Range;
 use asking::Asking;
 pub use counting::{Totals, totals_of};
@@ -49,7 +51,7 @@ pub struct Counts {
     pub others: u64,
     /// Lines of the log that stood there twice.
     pub repeated: u64,
-    /// Lines of the log of another time of the day.
+    /// Lines of the log of another part of the evening.
     pub outside: u64,
 }
 
@@ -62,7 +64,8 @@ pub struct Kept<T> {
 
 impl<T: Drop> Kept<T> {
     fn new(alloc: Global) -> Kept<T>
-        ensures { result.items.items ≡ [] }
+        ensures items { result.items.items ≡ [] }
+        ensures more { result.more ≡ 0 }
     {
         Kept {
             items: Vec::new(alloc),
@@ -72,8 +75,9 @@ impl<T: Drop> Kept<T> {
 
     // Keeps the next one, or counts it.
     fn push(&mut self, item: T) -> Result<(), AllocError>
-        ensures { OnOk result (self.new.items.items ≡
-            (if spec.has_room self.old.items.items then self.old.items.items ++ item ∷ [] else self.old.items.items)) }
+        ensures kept { OnOk result (self.new.items.items ≡ spec.kept_with self.old.items.items item) }
+        ensures more { OnOk result (self.new.more ≡
+            (if spec.has_room self.old.items.items then self.old.more else spec.more_by 1 self.old.more)) }
     {
         if self.items.len() < MOST {
             self.items.push(item)?;
@@ -95,7 +99,9 @@ pub struct Evening {
     is_running: bool,
     /// Whether the last line was one that stood there before.
     is_repeating: bool,
-    /// How many seconds a clock on the wall is ahead of UTC, and which part of its day is told.
+    /// Whether the last line with a date was of another part of the evening.
+    is_outside: bool,
+    /// How many seconds a clock on the wall is ahead of UTC, and which part of the evening is told.
     pub ahead: i64,
     pub range: Range,
     pub counts: Counts,
@@ -130,8 +136,9 @@ impl Evening {
             asking: Asking::new(alloc),
             is_running: false,
             is_repeating: false,
+            is_outside: false,
             ahead: 0,
-            range: Range::DAY,
+            range: Range::ALL,
             counts,
             first: None,
             last: None,
@@ -156,20 +163,20 @@ impl Evening {
 
     // Whether what was written at a second is told.
     fn is_told(&self, at: u64) -> bool
-        ensures { result ≡ spec.is_told self.now.range self.now.ahead at }
+        ensures { result ≡ has self.now.range self.now.ahead at }
     {
-        self.range.has(of_day(self.times().shown(at)))
+        self.range.has(self.ahead, at)
     }
 
-    /// Hears a line of the marks. One of another time of the day is left out.
-    pub fn mark(&mut self, line: &[u8]) -> Result<(), AllocError>
-        ensures { picture self.new.attempts ≡ picture self.old.attempts }
+    /// Takes the marks of a file. Those of another part of the evening are left out.
+    pub fn take_marks(&mut self, marks: &Marks) -> Result<(), AllocError>
+        ensures marks { OnOk result (self.new.marks.items ≡
+            within self.old.range self.old.ahead marks.now.list.items) }
+        ensures unread { OnOk result (self.new.unread_marks ≡ marks.now.unread) }
+        ensures attempts { picture self.new.attempts ≡ picture self.old.attempts }
     {
-        match read_mark(line) {
-            Some(mark) if self.is_told(mark.at) => self.marks.push(mark)?,
-            Some(_) => {}
-            None => self.unread_marks = self.unread_marks.saturating_add(1),
-        }
+        self.marks = marks.within(self.alloc, self.range, self.ahead)?;
+        self.unread_marks = marks.unread;
         Ok(())
     }
 }

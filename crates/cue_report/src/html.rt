@@ -1,6 +1,6 @@
 //! The report as one page of HTML: it stands alone, has no script, and prints in black on white.
 ghost use Rattle.std.specs.Prelude.{◌≡◌, ◌++◌, ℕ, List, OnOk, string_bytes};
-ghost use Rattle.cue_report.specs.Drawing.{AreDrawn, IsDrawn, class_of};
+ghost use Rattle.cue_report.specs.Drawing.{AreDrawn, IsDrawn, class_of, title_by};
 
 mod style;
 
@@ -24,7 +24,9 @@ const REMARKS: &str = r#"<table class="signed">
 "#;
 
 // What stands over the page: what the show is called, if that is said.
-fn title_of(head: &Head) -> &str {
+fn title_of(head: &Head) -> &str
+    ensures { result.now ≡ title_by (string_bytes head.now.title) }
+{
     if head.title.is_empty() {
         return "Show report";
     }

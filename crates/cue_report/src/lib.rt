@@ -9,8 +9,10 @@
 //! Why it is so:
 //! - The log is what was said at the time, and the store has only what is left. So the report is made of the log alone;
 //!   the show file gives names, and which cues were never given; marks say when the curtain went up and down.
+//! - What is told may begin and end at times of the day or at marks. A show may go past midnight, and its marks have whole
+//!   dates: so beside a mark a time of the day is a moment, too, and only two times of the day are hours of each day.
 //! - A line that cannot be read is counted and never an error: a journal has lines of others, and a power cut may leave
-//!   half a line. If the next start stands behind half a line, as after a full disk, it is found.
+//!   half a line. If the next start stands after half a line, as after a full disk, it is found.
 //! - An attempt is found by its number, and the numbers of a store rise. A line that names an attempt that the log did
 //!   not see begin makes one that began before the log.
 //! - The log has whole seconds: a time between two of its lines is right to a second, and never below 0.
@@ -30,6 +32,7 @@ mod course;
 pub mod csv;
 mod cutting;
 mod dates;
+pub mod ends;
 mod evening;
 pub mod html;
 pub mod laws;
@@ -49,6 +52,6 @@ pub use course::{Course, Fate};
 pub use dates::printed_words;
 pub use evening::Evening;
 pub use names::Names;
-pub use range::Range;
+pub use range::{Hours, Moments, Range};
 pub use reading::{Dated, Said, read};
 pub use sentences::Told;

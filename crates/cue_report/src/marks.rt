@@ -1,8 +1,9 @@
 //! Marks: when the curtain went up and down, as a stage manager writes it into a file beside the log.
-ghost use Rattle.std.specs.Prelude.{◌≡◌};
+ghost use Rattle.std.specs.Prelude.{◌≡◌, ◌++◌, ◌∷◌, [], IfOk, OnOk};
 ghost use Rattle.cue_report.specs.Marks as spec;
 
 use crate::dates::{date_of, dated};
+use crate::range::Range;
 use std::alloc::{AllocError, Global};
 
 /// What the curtain did.
@@ -57,4 +58,55 @@ pub fn read_mark(line: &[u8]) -> Option<Mark> {
 pub fn mark_line(alloc: Global, mark: Mark) -> Result<String, AllocError> {
     let date = date_of(alloc, mark.at)?;
     format!(in alloc; "{} {}\n", date.as_str(), mark.curtain.words())
+}
+
+/// The marks of a file.
+#[derive(Drop)]
+pub struct Marks {
+    /// In the order of its lines.
+    pub list: Vec<Mark>,
+    /// How many of its lines are none.
+    pub unread: u64,
+}
+
+impl Marks {
+    /// No line was read.
+    pub fn new(alloc: Global) -> Marks
+        ensures { result.list.items ≡ [] }
+    {
+        Marks {
+            list: Vec::new(alloc),
+            unread: 0,
+        }
+    }
+
+    // Takes what a line of the file is.
+    fn take(&mut self, mark: Option<Mark>) -> Result<(), AllocError>
+        ensures list { OnOk result (self.new.list.items ≡ spec.with_mark mark self.old.list.items) }
+        ensures unread { OnOk result (self.new.unread ≡ spec.unread_with mark self.old.unread) }
+    {
+        match mark {
+            Some(mark) => self.list.push(mark)?,
+            None => self.unread = self.unread.saturating_add(1),
+        }
+        Ok(())
+    }
+
+    /// Reads the next line of the file.
+    pub fn read(&mut self, line: &[u8]) -> Result<(), AllocError> {
+        self.take(read_mark(line))
+    }
+
+    /// Those that are of a part of an evening, where the clock on the wall is so many seconds ahead of UTC.
+    pub fn within(&self, alloc: Global, range: Range, ahead: i64) -> Result<Vec<Mark>, AllocError>
+        ensures { IfOk result (λ told. told.items ≡ spec.within range ahead self.now.list.items) }
+    {
+        let mut told = Vec::new(alloc);
+        for mark in self.list.iter() {
+            if range.has(ahead, mark.at) {
+                told.push(*mark)?;
+            }
+        }
+        Ok(told)
+    }
 }

@@ -1,6 +1,6 @@
 //! The parts of the report: what stands under each heading.
 use crate::evening::{Evening, Kept, totals_of};
-use crate::running::{Act, acts_of, run_of, whole_of};
+use crate::running::{Act, acts_of, played_of, run_of, whole_of};
 use crate::sentences::{
     Told, Words, counts_words, more_words, refusal_words, run_words, span_words, totals_words,
 };
@@ -32,14 +32,6 @@ fn push_act(told: Told<'_>, part: &mut Part, act: Act, number: u64) -> Result<u6
     Ok(number)
 }
 
-// The seconds that were played.
-fn played(acts: &[Act]) -> u64 {
-    acts.iter().fold(0, |sum: u64, act| match act {
-        Act::Played(stretch) => sum.saturating_add(stretch.seconds()),
-        Act::Interval(_) => sum,
-    })
-}
-
 // How long the show ran without marks: from the first GO to the last end.
 fn without_marks(told: Told<'_>, evening: &Evening, part: Part) -> Result<Part, AllocError> {
     let mut part = part;
@@ -63,7 +55,7 @@ fn running(told: Told<'_>, evening: &Evening) -> Result<Part, AllocError> {
     }
     if let Some(whole) = whole_of(&evening.marks) {
         let words = ("curtain up ", "curtain down ");
-        let said = run_words(told, played(&acts), whole, words)?;
+        let said = run_words(told, played_of(&acts), whole, words)?;
         part.push(String::from_str(told.alloc, "Played")?, said)?;
     }
     Ok(part)

@@ -44,7 +44,7 @@ fn act_between(mark: Mark, next: Mark) -> Option<Act>
     }
 }
 
-// Puts what lies between the last mark, if there is one, and the next one behind the others.
+// Puts what lies between the last mark, if there is one, and the next one after the others.
 fn push_act(acts: &mut Vec<Act>, last: Option<Mark>, next: Mark) -> Result<(), AllocError>
     ensures { OnOk result (acts.new.items ≡ acts.old.items ++ spec.acts_up_to last next) }
 {
@@ -68,6 +68,27 @@ pub fn acts_of(alloc: Global, marks: &[Mark]) -> Result<Vec<Act>, AllocError>
         last = Some(*mark);
     }
     Ok(acts)
+}
+
+// The seconds of an act that were played.
+fn played_in(act: Act) -> u64
+    ensures { result ≡ spec.played_in act }
+{
+    match act {
+        Act::Played(stretch) => stretch.seconds(),
+        Act::Interval(_) => 0,
+    }
+}
+
+/// The seconds that were played.
+pub fn played_of(acts: &[Act]) -> u64
+    ensures { result ≡ spec.played_of 0 acts.now }
+{
+    let mut played: u64 = 0;
+    for act in acts {
+        played = played.saturating_add(played_in(*act));
+    }
+    played
 }
 
 /// From the first mark to the last one; none if there are fewer than two.

@@ -1,5 +1,8 @@
 //! What the report says, in words: the same in each of its forms.
-ghost use Rattle.std.specs.Prelude.{◌≡◌, IfOk, OnOk, string_bytes};
+ghost use Rattle.std.specs.Prelude.{◌≡◌, [], IfNone, IfOk, IsTrue, OnOk, string_bytes};
+ghost use Rattle.std.specs.List.{list_all};
+ghost use Rattle.std.specs.Str.{chars};
+ghost use Rattle.cue_words.specs.Signs.{is_shown};
 ghost use Rattle.cue_report.specs.Seen as seen;
 ghost use Rattle.cue_report.specs.Telling as spec;
 
@@ -29,7 +32,9 @@ pub struct Told<'a> {
 }
 
 /// Bytes of a log as text that a terminal may get.
-pub fn shown_bytes(alloc: Global, bytes: &[u8]) -> Words {
+pub fn shown_bytes(alloc: Global, bytes: &[u8]) -> Words
+    ensures { IfOk result (λ text. IsTrue (list_all is_shown (chars (string_bytes text)))) }
+{
     let text = String::from_utf8_lossy(alloc, bytes)?;
     shown_text(alloc, text.as_str())
 }
@@ -105,7 +110,9 @@ impl Told<'_> {
     }
 
     // A name in quotation marks; empty if there is none.
-    fn quoted(self, name: &str) -> Words {
+    fn quoted(self, name: &str) -> Words
+        ensures { IfOk result (λ text. IsTrue (spec.is_none name.now) → string_bytes text ≡ []) }
+    {
         if name.is_empty() {
             return Ok(String::new(self.alloc));
         }
@@ -133,7 +140,9 @@ impl Told<'_> {
     }
 
     /// Who asked: a device with its name, the name that was sent, or the port; empty if the log does not say.
-    pub fn who(self, who: Who) -> Words {
+    pub fn who(self, who: Who) -> Words
+        ensures { IfOk result (λ text. spec.IsAsker who (string_bytes text)) }
+    {
         match who {
             Who::Device(device) => self.device(device),
             Who::Named(name) => shown_bytes(self.alloc, name.text()),
@@ -143,7 +152,9 @@ impl Told<'_> {
     }
 
     /// When something was done, and by whom: `given 12:13:38 by anna`; empty if it was not.
-    pub fn done(self, what: &str, moment: Option<Moment>) -> Words {
+    pub fn done(self, what: &str, moment: Option<Moment>) -> Words
+        ensures { IfOk result (λ text. IfNone moment (string_bytes text ≡ [])) }
+    {
         let Some(moment) = moment else {
             return Ok(String::new(self.alloc));
         };

@@ -27,10 +27,24 @@ fn counted(tally: Option<Tally>, place: usize) -> Tally
 }
 
 // The place in the file of the cue of an attempt that was given.
-fn given_place(names: &Names, attempt: &Attempt) -> Option<usize> {
+fn given_place(names: &Names, attempt: &Attempt) -> Option<usize>
+    ensures { result ≡ spec.given_place names.now attempt.now.cue attempt.now.given }
+{
     match (&attempt.cue, &attempt.given) {
         (Some(cue), Some(_)) => names.place_of(cue),
         _ => None,
+    }
+}
+
+// Counts the attempt with this number for the cue at a place of the file, if it is there.
+fn count_at(tallies: &mut [Option<Tally>], place: Option<usize>, number: usize)
+    ensures { tallies.new ≡ spec.count_at place number tallies.old }
+{
+    match place {
+        Some(place) if place < tallies.len() => {
+            tallies[place] = Some(counted(tallies[place], number));
+        }
+        _ => {}
     }
 }
 
@@ -42,11 +56,7 @@ pub fn tallies(
 ) -> Result<Vec<Option<Tally>>, AllocError> {
     let mut tallies = vec![in alloc; None; names.count()]?;
     for (number, attempt) in attempts.iter().enumerate() {
-        if let Some(place) = given_place(names, attempt) {
-            if let Some(tally) = tallies.get_mut(place) {
-                *tally = Some(counted(*tally, number));
-            }
-        }
+        count_at(&mut tallies, given_place(names, attempt), number);
     }
     Ok(tallies)
 }

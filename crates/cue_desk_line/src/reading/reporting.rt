@@ -1,10 +1,14 @@
 //! The command `report`, and who asks: what stands after it.
+ghost use Rattle.std.specs.Prelude.{◌≡◌, IfOk, IsTrue, Some};
+ghost use Rattle.cue_desk_line.specs.Ends as spec;
+ghost use Rattle.cue_desk_line.specs.declared.reading.reporting.End.TheVariants.{Mark};
+
 use super::arguments::{Argument, Declared};
 use super::words::Line;
 use super::{option_in, or_unfit, text_in};
 use clap::ArgMatches;
 use cue_asker::AskerName;
-use cue_desk::line::LineFault;
+use cue_desk::line::{LineFault, unfit};
 use std::alloc::Global;
 
 /// Which evening is told, and how.
@@ -18,13 +22,22 @@ pub struct Report {
     pub form: Form,
     /// What the show is called; empty if that is not said.
     pub title: String,
-    /// From which minute of the day to which; the whole day if that is not said.
-    pub from: Option<u16>,
-    pub to: Option<u16>,
+    /// From where to where; the whole evening if that is not said.
+    pub from: Option<End>,
+    pub to: Option<End>,
     /// How many minutes the clock on the wall is ahead of UTC.
     pub ahead: i16,
     /// The file with the marks of the curtain, if there is one.
     pub marks: Option<String>,
+}
+
+/// Where what is told begins or ends.
+#[derive(Clone, Copy, PartialEq, Eq, Debug)]
+pub enum End {
+    /// At this minute of the day.
+    Minute(u16),
+    /// At a mark of the curtain: where it first went up, or where it last came down.
+    Mark,
 }
 
 /// As what an evening is told.
@@ -56,8 +69,16 @@ pub(super) const REPORT_COMMAND: Declared = Declared {
             "FILE",
             "The marks of the curtain, as `mark` writes them",
         ),
-        Argument::OptionOf("from", "HH:MM", "From this time of the day on"),
-        Argument::OptionOf("to", "HH:MM", "Up to this time of the day"),
+        Argument::OptionOf(
+            "from",
+            "HH:MM|up",
+            "From this time of the day on, or from the first curtain up of the marks on",
+        ),
+        Argument::OptionOf(
+            "to",
+            "HH:MM|down",
+            "Up to this time of the day, or up to the last curtain down of the marks",
+        ),
         Argument::OptionOf(
             "zone",
             "+HH:MM",
@@ -67,35 +88,76 @@ pub(super) const REPORT_COMMAND: Declared = Declared {
 };
 
 // The number that two digits are.
-fn two_digits(text: &str) -> Option<u16> {
-    match text.as_bytes() {
-        [tens, ones] if tens.is_ascii_digit() && ones.is_ascii_digit() => {
-            Some(u16::from(tens.saturating_sub(b'0')) * 10 + u16::from(ones.saturating_sub(b'0')))
-        }
-        _ => None,
-    }
-}
-
-// The minute of the day that a text is, as `19:30`.
-fn minute_of(text: &str) -> Option<u16> {
-    let (hours, minutes) = text.split_once(':')?;
-    let hours = two_digits(hours)?;
-    let minutes = two_digits(minutes)?;
-    if hours < 24 && minutes < 60 {
-        Some(hours * 60 + minutes)
+fn two_digits(tens: u8, ones: u8) -> Option<u16>
+    ensures { result ≡ spec.two_digits tens ones }
+{
+    if tens.is_ascii_digit() && ones.is_ascii_digit() {
+        Some(u16::from(tens.saturating_sub(b'0')) * 10 + u16::from(ones.saturating_sub(b'0')))
     } else {
         None
     }
 }
 
-// A minute of the day, if the command line says it.
-fn minute_in(alloc: Global, found: &ArgMatches<'_>, name: &str) -> Result<Option<u16>, LineFault> {
-    let Some(text) = found.get_str(name) else {
+// The minute of the day of an hour and a minute.
+fn minute_at(hours: Option<u16>, minutes: Option<u16>) -> Option<u16>
+    ensures { result ≡ spec.minute_at hours minutes }
+{
+    match (hours, minutes) {
+        (Some(hours), Some(minutes)) if hours < 24 && minutes < 60 => Some(hours * 60 + minutes),
+        _ => None,
+    }
+}
+
+// The minute of the day that a text is, as `19:30`.
+fn minute_of(text: &str) -> Option<u16>
+    ensures { result ≡ spec.minute_of text.now }
+{
+    match text.as_bytes() {
+        [tens, ones, b':', ten, one] => {
+            minute_at(two_digits(*tens, *ones), two_digits(*ten, *one))
+        }
+        _ => None,
+    }
+}
+
+// The end that a text is: this word of a mark, or a minute of the day.
+fn end_of(text: &str, mark: &str) -> Option<End>
+    ensures { result ≡ spec.end_of mark.now text.now }
+{
+    if text == mark {
+        return Some(End::Mark);
+    }
+    match minute_of(text) {
+        Some(minute) => Some(End::Minute(minute)),
+        None => None,
+    }
+}
+
+// An end, if the command line says it after this option. One that is a mark wants a file of marks.
+fn end_in(
+    alloc: Global,
+    found: &ArgMatches<'_>,
+    option: &str,
+    mark: &str,
+    has_marks: bool,
+) -> Result<Option<End>, LineFault>
+    ensures said { IfOk result (λ end. end ≡ spec.end_in found.now option.now mark.now) }
+    ensures marked { IfOk result (λ end. end ≡ Some Mark → IsTrue has_marks) }
+{
+    let Some(text) = found.get_str(option) else {
         return Ok(None);
     };
-    let wanted = "is no time of the day: write it as 19:30";
-    let minute = or_unfit(alloc, minute_of(text), text, wanted)?;
-    Ok(Some(minute))
+    let wanted =
+        "is no time of the day: write it as 19:30; or with --marks say --from up, or --to down";
+    match or_unfit(alloc, end_of(text, mark), text, wanted)? {
+        End::Minute(minute) => Ok(Some(End::Minute(minute))),
+        End::Mark if has_marks => Ok(Some(End::Mark)),
+        End::Mark => Err(unfit(
+            alloc,
+            text,
+            "is a mark of the curtain: say with --marks FILE where the marks are",
+        )),
+    }
 }
 
 // How many minutes ahead of UTC a text is, as `+01:00`.
@@ -132,18 +194,30 @@ fn form_in(found: &ArgMatches<'_>) -> Form {
     }
 }
 
-/// The command `report`, with what stands after it.
-pub fn report_in(alloc: Global, found: &ArgMatches<'_>) -> Result<Line, LineFault> {
-    Ok(Line::Report(Report {
+// What is told by the command `report`.
+fn told_in(alloc: Global, found: &ArgMatches<'_>) -> Result<Report, LineFault>
+    ensures { IfOk result (λ report. spec.IsToldBy found.now report) }
+{
+    let marks = option_in(alloc, found, "marks")?;
+    let from = end_in(alloc, found, "from", "up", marks.is_some())?;
+    let to = end_in(alloc, found, "to", "down", marks.is_some())?;
+    Ok(Report {
         log: text_in(alloc, found, "LOG")?,
         file: text_in(alloc, found, "FILE")?,
         form: form_in(found),
         title: String::from_str(alloc, found.get_str("title").unwrap_or(""))?,
-        from: minute_in(alloc, found, "from")?,
-        to: minute_in(alloc, found, "to")?,
+        from,
+        to,
         ahead: ahead_in(alloc, found)?,
-        marks: option_in(alloc, found, "marks")?,
-    }))
+        marks,
+    })
+}
+
+/// The command `report`, with what stands after it.
+pub fn report_in(alloc: Global, found: &ArgMatches<'_>) -> Result<Line, LineFault>
+    ensures { IfOk result (λ line. spec.IsReportBy found.now line) }
+{
+    Ok(Line::Report(told_in(alloc, found)?))
 }
 
 /// The command `mark`.

@@ -1,11 +1,11 @@
 //! Who asks, and for what.
-ghost use Rattle.std.specs.Prelude.{◌≡◌, ◌++◌, IfSome, OnOk, None, Some, codes, nat_eq, slice_get};
+ghost use Rattle.std.specs.Prelude.{◌≡◌, IsTrue, OnOk, Some, nat_eq};
 ghost use Rattle.std.specs.HashMap.{get, IsEmpty};
 ghost use Rattle.cue_report.specs.Asking as spec;
 
 use crate::attempt::Who;
 use cue_asker::AskerName;
-use cue_log_lines::{Asked, Line, Ordered};
+use cue_log_lines::{Line, Ordered};
 use cue_operator::{CueVerb, DeviceVerb};
 use cue_show::limits::MAX_DEVICES;
 use cue_show::{CueNo, DeviceNo};
@@ -47,6 +47,12 @@ fn word_at(address: &[u8]) -> Option<(DeviceVerb, DeviceNo)> {
         (Some(word), Some(device)) => Some((word, device)),
         _ => None,
     }
+}
+
+/// The device that an address names.
+pub fn device_at(address: &[u8]) -> Option<DeviceNo> {
+    let (_, device) = word_at(address)?;
+    Some(device)
 }
 
 /// What a reply says that a device has answered, or that is asked of it, if it made something.
@@ -109,9 +115,23 @@ fn asker_at(
     }
 }
 
+// Whether a command was of this cue, or of several.
+fn is_of(made: Option<CueNo>, cue: Option<CueNo>) -> bool
+    ensures { result ≡ spec.is_of made cue }
+{
+    match (made, cue) {
+        (None, _) => true,
+        (Some(made), Some(cue)) => made == cue,
+        (Some(_), None) => false,
+    }
+}
+
 // Whether a command is the one that is meant: it was made in this second, of this cue or of several.
-fn is_meant(made: &Made, verb: CueVerb, cue: &Option<CueNo>, at: u64) -> bool {
-    made.verb == verb && made.at == at && (made.cue.is_none() || made.cue == *cue)
+fn is_meant(made: &Made, verb: CueVerb, cue: &Option<CueNo>, at: u64) -> bool
+    ensures moment { IsTrue result → made.now.at ≡ at }
+    ensures cue { IsTrue result → IsTrue (spec.is_of made.now.cue cue.now) }
+{
+    made.verb == verb && made.at == at && is_of(made.cue, *cue)
 }
 
 impl Asking {
@@ -147,8 +167,10 @@ impl Asking {
     }
 
     // The device, if it has this port.
-    fn with_port(&self, word: Option<(DeviceVerb, DeviceNo)>, port: u16) -> Option<DeviceNo> {
-        let (_, device) = word?;
+    fn with_port(&self, device: Option<DeviceNo>, port: u16) -> Option<DeviceNo>
+        ensures { result ≡ spec.with_port self.now.ports device port }
+    {
+        let device = device?;
         match self.ports.get(usize::from(device.number())) {
             Some(there) if *there == port => Some(device),
             _ => None,
@@ -162,11 +184,14 @@ impl Asking {
         name_within(self.names.get(&port).copied(), at)
     }
 
-    /// Who asked at a second.
-    pub fn who(&self, reply: &Asked<'_>, at: u64) -> Who {
-        let device = self.with_port(word_at(reply.address.bytes()), reply.port);
-        let listens = self.devices.get(&reply.port).copied();
-        asker_at(device, self.name_of(reply.port, at), listens, reply.port)
+    /// Who asked from a port at a second, at an address that names this device, or none.
+    pub fn who(&self, device: Option<DeviceNo>, port: u16, at: u64) -> Who
+        ensures { result ≡ spec.asker_at (spec.with_port self.now.ports device port)
+            (spec.name_within (get nat_eq self.now.names port) at) (get nat_eq self.now.devices port) port }
+    {
+        let device = self.with_port(device, port);
+        let listens = self.devices.get(&port).copied();
+        asker_at(device, self.name_of(port, at), listens, port)
     }
 
     /// A command was made: those of the seconds before are of no use any more.

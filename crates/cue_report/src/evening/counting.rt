@@ -14,7 +14,7 @@ pub struct Totals {
     pub cancelled: usize,
     pub failed: usize,
     /// Those whose end the log does not have.
-    pub open: usize,
+    pub unended: usize,
 }
 
 // Whether an attempt ended so; of no outcome, whether the log does not have its end.
@@ -41,13 +41,13 @@ pub fn totals_of(attempts: &[Attempt]) -> Totals
     ensures complete { result.complete ≡ count_by (λ a. spec.ends_so (Some Complete) a.ended) attempts.now }
     ensures cancelled { result.cancelled ≡ count_by (λ a. spec.ends_so (Some Cancelled) a.ended) attempts.now }
     ensures failed { result.failed ≡ count_by (λ a. spec.ends_so (Some Failed) a.ended) attempts.now }
-    ensures unended { result.open ≡ count_by (λ a. spec.ends_so None a.ended) attempts.now }
+    ensures unended { result.unended ≡ count_by (λ a. spec.ends_so None a.ended) attempts.now }
 {
     Totals {
         all: attempts.len(),
         complete: count_of(attempts, Some(Outcome::Complete)),
         cancelled: count_of(attempts, Some(Outcome::Cancelled)),
         failed: count_of(attempts, Some(Outcome::Failed)),
-        open: count_of(attempts, None),
+        unended: count_of(attempts, None),
     }
 }

@@ -1,6 +1,8 @@
 //! Follows what the lines say.
-ghost use Rattle.std.specs.Prelude.{◌≡◌};
+ghost use Rattle.std.specs.Prelude.{◌≡◌, None};
+ghost use Rattle.cue_report.specs.Asking as spec;
 ghost use Rattle.cue_report.specs.Picture.{picture};
+ghost use Rattle.cue_report.specs.declared.attempt.Who.TheVariants.{Unseen};
 
 use super::asking::answer_in;
 use super::{Done, Evening};
@@ -10,7 +12,35 @@ use crate::sentences::shown_bytes;
 use cue_log_lines::listed::found_in;
 use cue_log_lines::{Line, OrderKind, write};
 use cue_operator::CueVerb;
+use cue_show::CueNo;
 use std::alloc::AllocError;
+
+// The verb that an order of this kind was asked for by; the controller sends CANCEL by itself.
+fn verb_of(kind: OrderKind) -> Option<CueVerb>
+    ensures { result ≡ spec.verb_of kind }
+{
+    match kind {
+        OrderKind::Standby => Some(CueVerb::Standby),
+        OrderKind::Go => Some(CueVerb::Go),
+        OrderKind::Cancel => None,
+    }
+}
+
+// What was asked for, of which cue, that a line says the controller has begun; none if nobody asks for that.
+fn asked_for(line: &Line<'_>) -> Option<(CueVerb, Option<CueNo>)>
+    ensures { result ≡ spec.asked_for line.now }
+{
+    match line {
+        Line::Ordered(ordered) => {
+            let verb = verb_of(ordered.kind)?;
+            Some((verb, ordered.attempt.cue))
+        }
+        Line::GivenUp(attempt, _) => Some((CueVerb::Cancel, attempt.cue)),
+        Line::Ready { .. } | Line::Stopped | Line::Own(_) | Line::Recovered(_) => None,
+        Line::HeldUp(_) | Line::Replied(_, _) | Line::Kinds(_) => None,
+        Line::Alone(_, _) | Line::Ended(_) => None,
+    }
+}
 
 impl Evening {
     /// Takes what a line says. `before` is the second of the line before it.
@@ -38,17 +68,13 @@ impl Evening {
     }
 
     // Who asked for what a line says.
-    fn asker_of(&self, at: u64, line: &Line<'_>) -> Who {
-        let (verb, cue) = match line {
-            Line::Ordered(ordered) => match ordered.kind {
-                OrderKind::Standby => (CueVerb::Standby, ordered.attempt.cue),
-                OrderKind::Go => (CueVerb::Go, ordered.attempt.cue),
-                OrderKind::Cancel => return Who::Unseen,
-            },
-            Line::GivenUp(attempt, _) => (CueVerb::Cancel, attempt.cue),
-            _ => return Who::Unseen,
-        };
-        self.asking.asker(verb, &cue, at)
+    fn asker_of(&self, at: u64, line: &Line<'_>) -> Who
+        ensures { spec.asked_for line.now ≡ None → result ≡ Unseen }
+    {
+        match asked_for(line) {
+            Some((verb, cue)) => self.asking.asker(verb, &cue, at),
+            None => Who::Unseen,
+        }
     }
 
     // Takes a line of the log: what it says of attempts, and all else.

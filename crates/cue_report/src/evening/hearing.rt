@@ -1,10 +1,12 @@
 //! Hears the bytes of a log, line by line.
-ghost use Rattle.std.specs.Prelude.{◌≡◌};
+ghost use Rattle.std.specs.Prelude.{◌≡◌, false, not, true};
+ghost use Rattle.cue_report.specs.Evening as spec;
 ghost use Rattle.cue_report.specs.Picture.{picture};
+ghost use Rattle.cue_report.specs.Range.{has};
 
 use super::Evening;
 use crate::cutting::Cutter;
-use crate::reading::{Dated, read, start_within};
+use crate::reading::{Dated, Said, read, start_within};
 use std::alloc::AllocError;
 
 // A line without the sign that some programs put before its end.
@@ -49,7 +51,8 @@ impl Evening {
 
     // Counts a line that is none of the log.
     fn pass_over(&mut self) -> Result<(), AllocError>
-        ensures { picture self.new.attempts ≡ picture self.old.attempts }
+        ensures counted { self.new.counts ≡ spec.with_other self.old.counts }
+        ensures attempts { picture self.new.attempts ≡ picture self.old.attempts }
     {
         self.counts.others = self.counts.others.saturating_add(1);
         Ok(())
@@ -82,12 +85,24 @@ impl Evening {
         }
     }
 
-    // Whether a line with a date is told: it is of the part of the day that is, and did not stand there before.
-    fn is_new(&mut self, line: &[u8], at: u64) -> bool
-        ensures { picture self.new.attempts ≡ picture self.old.attempts }
+    // Counts a line of another part of the evening.
+    fn leave_out(&mut self)
+        ensures outside { self.new.is_outside ≡ self.old.is_outside }
+        ensures counted { self.new.counts ≡ spec.with_outside self.old.counts }
+        ensures attempts { picture self.new.attempts ≡ picture self.old.attempts }
     {
-        if !self.is_told(at) {
-            self.counts.outside = self.counts.outside.saturating_add(1);
+        self.counts.outside = self.counts.outside.saturating_add(1);
+    }
+
+    // Whether a line with a date is told: it is of the part of the evening that is, and did not stand there before.
+    fn is_new(&mut self, line: &[u8], at: u64) -> bool
+        ensures outside { self.new.is_outside ≡ not (has self.old.range self.old.ahead at) }
+        ensures left_out { has self.old.range self.old.ahead at ≡ false → result ≡ false }
+        ensures attempts { picture self.new.attempts ≡ picture self.old.attempts }
+    {
+        self.is_outside = !self.is_told(at);
+        if self.is_outside {
+            self.leave_out();
             return false;
         }
         self.is_repeating = self.is_repeated(line, at);
@@ -97,19 +112,43 @@ impl Evening {
         !self.is_repeating
     }
 
-    // Hears what a line says, if it is told.
-    fn hear_said(&mut self, line: &[u8], said: &Dated<'_>) -> Result<(), AllocError> {
-        let before = self.last;
-        let at = said.at.unwrap_or(before.unwrap_or(0));
-        if said.at.is_some() {
-            if !self.is_new(line, at) {
-                return Ok(());
-            }
-            self.repeats.keep(line)?;
-            self.first = Some(self.first.unwrap_or(at));
-            self.last = Some(at);
+    // Hears what a line without a date says: it is told, if the line before it is.
+    fn hear_undated(&mut self, said: &Said<'_>) -> Result<(), AllocError>
+        ensures left_out { self.old.is_outside ≡ true → picture self.new.attempts ≡ picture self.old.attempts }
+    {
+        if self.is_outside {
+            self.leave_out();
+            return Ok(());
         }
         self.counts.told = self.counts.told.saturating_add(1);
-        self.take(at, before, &said.said)
+        let before = self.last;
+        self.take(before.unwrap_or(0), before, said)
+    }
+
+    // Hears what a line of a second says, if it is told.
+    fn hear_dated(&mut self, line: &[u8], at: u64, said: &Said<'_>) -> Result<(), AllocError>
+        ensures left_out { has self.old.range self.old.ahead at ≡ false →
+            picture self.new.attempts ≡ picture self.old.attempts }
+    {
+        if !self.is_new(line, at) {
+            return Ok(());
+        }
+        self.repeats.keep(line)?;
+        self.counts.told = self.counts.told.saturating_add(1);
+        self.first = Some(self.first.unwrap_or(at));
+        let before = self.last;
+        self.last = Some(at);
+        self.take(at, before, said)
+    }
+
+    // Hears what a line says, if it is told.
+    fn hear_said(&mut self, line: &[u8], said: &Dated<'_>) -> Result<(), AllocError>
+        ensures left_out { spec.is_outside self.old.range self.old.ahead self.old.is_outside said.now.at ≡ true →
+            picture self.new.attempts ≡ picture self.old.attempts }
+    {
+        match said.at {
+            Some(at) => self.hear_dated(line, at, &said.said),
+            None => self.hear_undated(&said.said),
+        }
     }
 }

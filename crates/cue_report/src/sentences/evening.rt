@@ -6,7 +6,6 @@ use super::{Told, Words};
 use crate::evening::{Counts, Evening, Refusal, Totals};
 use crate::running::Stretch;
 use std::alloc::Global;
-use std::fmt::Write;
 
 /// What was refused, and to whom: `anna, /cue/12/go: code 13, not every device is ready`.
 pub fn refusal_words(told: Told<'_>, refusal: &Refusal) -> Words {
@@ -54,20 +53,31 @@ pub fn span_words(told: Told<'_>, evening: &Evening) -> Words {
 
 /// How many attempts ended how.
 pub fn totals_words(alloc: Global, totals: Totals) -> Words {
-    let attempts = if totals.all == 1 {
+    let unended = unended_words(alloc, totals.unended)?;
+    let word = if totals.all == 1 {
         "attempt"
     } else {
         "attempts"
     };
-    let (all, complete) = (totals.all, totals.complete);
-    let (cancelled, failed) = (totals.cancelled, totals.failed);
-    let mut text = format!(in alloc;
-        "{all} {attempts}: {complete} complete, {cancelled} cancelled, {failed} failed"
-    )?;
-    if totals.open > 0 {
-        write!(text, ", {} without an end in this log", totals.open)?;
+    format!(in alloc;
+        "{} {word}: {} complete, {} cancelled, {} failed{}",
+        totals.all,
+        totals.complete,
+        totals.cancelled,
+        totals.failed,
+        unended.as_str()
+    )
+}
+
+// So many attempts without an end, after a comma; nothing if there is none.
+#[tactic(auto, unfolding(crate::specs::Telling::unended_words))]
+fn unended_words(alloc: Global, count: usize) -> Words
+    ensures { IfOk result (λ text. string_bytes text ≡ spec.unended_words count) }
+{
+    if count == 0 {
+        return Ok(String::new(alloc));
     }
-    Ok(text)
+    format!(in alloc; ", {count} without an end in this log")
 }
 
 // So many lines of a kind, after a comma; nothing if there is none.

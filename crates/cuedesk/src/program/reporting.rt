@@ -2,8 +2,10 @@
 mod marking;
 
 use cue_desk::ending::Ending;
-use cue_desk_line::{Form, Report};
+use cue_desk_line::{End, Form, Report};
 use cue_files_run::read_file;
+use cue_report::ends::{self, NoRange, range_of};
+use cue_report::marks::Marks;
 use cue_report::{Evening, Names, Range, Told, csv, html, text};
 use cue_saying::{print, say};
 use cue_show_file::ShowFile;
@@ -33,20 +35,31 @@ fn unread<R: Eprint>(rt: &R, path: &str, why: &io::Error) -> Ending {
     Ending::Failed
 }
 
-// Hears a file of marks, if there is one.
-fn hear_marks<R: Files<File = File> + AllocGlobal>(
-    rt: &R,
-    path: &str,
-    evening: &mut Evening,
-) -> io::Result<()> {
+// Reads a file of marks.
+fn read_marks<R: Files<File = File> + AllocGlobal>(rt: &R, path: &str) -> io::Result<Marks> {
     let mut text = Vec::new(rt.alloc());
     let _ = File::open(rt, path)?.read_to_end(&mut text)?;
+    let mut marks = Marks::new(rt.alloc());
     for line in text.split(|byte| *byte == b'\n') {
         if !line.is_empty() {
-            evening.mark(line)?;
+            marks.read(line)?;
         }
     }
-    Ok(())
+    Ok(marks)
+}
+
+// The marks of a file, if one is said; none else.
+fn marks_in<R: Files<File = File> + Eprint + AllocGlobal>(
+    rt: &R,
+    path: Option<&str>,
+) -> Result<Marks, Ending> {
+    let Some(path) = path else {
+        return Ok(Marks::new(rt.alloc()));
+    };
+    match read_marks(rt, path) {
+        Ok(marks) => Ok(marks),
+        Err(why) => Err(unread(rt, path, &why)),
+    }
 }
 
 // Hears a log to its end, as many bytes at once as there is room for.
@@ -106,38 +119,60 @@ fn report_of(
     }
 }
 
-// The part of a day between these minutes, with both.
-fn range_of(from: Option<u16>, to: Option<u16>) -> Range {
-    let from = match from {
-        Some(minute) => u64::from(minute).saturating_mul(60),
-        None => Range::DAY.from,
-    };
-    let to = match to {
-        Some(minute) => u64::from(minute).saturating_mul(60).saturating_add(59),
-        None => Range::DAY.to,
-    };
-    Range { from, to }
+// An end of what is told, as the report knows it.
+fn end_of(said: Option<End>) -> ends::End {
+    match said {
+        None => ends::End::Clock(None),
+        Some(End::Minute(minute)) => ends::End::Clock(Some(minute)),
+        Some(End::Mark) => ends::End::Mark,
+    }
 }
 
-/// The command `report`. A line that is none of the log is counted, and no mistake; a log that cannot be read ends it
-/// with status 3, a show file with mistakes with status 1.
+// Why the marks of a file give nothing to tell.
+fn no_range<R: Eprint>(rt: &R, path: &str, why: NoRange) -> Ending {
+    let why = match why {
+        NoRange::NeverUp => "no line says `curtain up`, where the report would begin",
+        NoRange::NeverDown => "no line says `curtain down`, where the report would end",
+        NoRange::DownBeforeUp => "the last `curtain down` is before the first `curtain up`",
+    };
+    say(rt, format_args!("{path}: {why}"));
+    Ending::Refused
+}
+
+// Which part of an evening is told.
+fn range_in<R: Eprint>(rt: &R, report: &Report, marks: &Marks, ahead: i64) -> Result<Range, Ending> {
+    let (from, to) = (end_of(report.from), end_of(report.to));
+    match range_of(from, to, &marks.list, ahead) {
+        Ok(range) => Ok(range),
+        Err(why) => Err(no_range(rt, report.marks.as_deref().unwrap_or("--marks"), why)),
+    }
+}
+
+// The evening that is told, of which nothing was heard yet but its marks.
+fn evening_of<R: Files<File = File> + Eprint + AllocGlobal>(
+    rt: &R,
+    report: &Report,
+) -> Result<Evening, Ending> {
+    let marks = marks_in(rt, report.marks.as_deref())?;
+    let mut evening = Evening::new(rt.alloc());
+    evening.ahead = i64::from(report.ahead) * 60;
+    evening.range = range_in(rt, report, &marks, evening.ahead)?;
+    evening.take_marks(&marks)?;
+    Ok(evening)
+}
+
+/// The command `report`. A line that is none of the log is counted, and no mistake; a file that cannot be read ends it
+/// with status 3, a show file with mistakes with status 1, and so do marks that give nothing to tell.
 pub fn report_evening<R: Files<File = File> + Eprint + AllocGlobal, W: Write>(
     rt: &R,
     report: &Report,
     writer: &mut W,
 ) -> Result<(), Ending> {
     let file = read_file(rt, report.file.as_str())?;
+    let mut evening = evening_of(rt, report)?;
     let log = report.log.as_str();
-    let mut evening = Evening::new(rt.alloc());
-    evening.ahead = i64::from(report.ahead) * 60;
-    evening.range = range_of(report.from, report.to);
     if let Err(why) = hear(rt, log, &mut evening) {
         return Err(unread(rt, log, &why));
-    }
-    if let Some(marks) = report.marks.as_deref() {
-        if let Err(why) = hear_marks(rt, marks, &mut evening) {
-            return Err(unread(rt, marks, &why));
-        }
     }
     let told = report_of(rt.alloc(), report, &evening, &file)?;
     print(writer, told.as_str())

@@ -140,7 +140,12 @@ fn no_range<R: Eprint>(rt: &R, path: &str, why: NoRange) -> Ending {
 }
 
 // Which part of an evening is told.
-fn range_in<R: Eprint>(rt: &R, report: &Report, marks: &Marks, ahead: i64) -> Result<Range, Ending> {
+fn range_in<R: Eprint>(
+    rt: &R,
+    report: &Report,
+    marks: &Marks,
+    ahead: i64,
+) -> Result<Range, Ending> {
     let (from, to) = (end_of(report.from), end_of(report.to));
     match range_of(from, to, &marks.list, ahead) {
         Ok(range) => Ok(range),

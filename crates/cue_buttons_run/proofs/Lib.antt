@@ -1,2 +1,4 @@
+pub mod ByteLemmas
 pub mod PressLemmas
+pub mod ReasonLemmas
 pub mod StruckLemmas

@@ -1,8 +1,10 @@
 -- What is pressed at a desk without a browser, and by what.
-use Rattle.std.specs.Prelude.{◌≡◌, ◌⊎◌, Bool, true, false, ℕ, Option, None, Some, Result, Ok, Err}
+use Rattle.std.specs.Prelude.{◌≡◌, ◌⊎◌, Bool, true, false, ℕ, List, [], ◌∷◌, Option, None, Some, Result, Ok, Err}
 use Rattle.cue_desk_run.specs.Working.{HearsFor, HearsIf, Stays}
 use Rattle.cue_midi.specs.declared.heard.Heard.{Heard}
 use Rattle.cue_midi.specs.declared.heard.Heard.TheVariants as midi
+use Rattle.cue_midi.specs.declared.parser.Parser.{Parser}
+use Rattle.cue_midi.specs.Stream.{IsAfter, heard_at}
 use Rattle.cue_presses.specs.declared.address.Spoken.{Spoken}
 use Rattle.cue_presses.specs.declared.address.Spoken.TheVariants as spoken
 use Rattle.cue_presses.specs.declared.hand.Hand.{Hand}
@@ -101,16 +103,57 @@ Means s h m v p = MeansBy (intent_of s.keys h.pedals m) (after s.keys m h) v p
 abbrev pub IsOfPress : Press → Button → Type 0
 IsOfPress p b = (b ≡ p.button) ⊎ ((q : ℕ) × (p.choose ≡ Some q) × (b ≡ button.Choose q))
 
--- Why a press of this button is heard: a message of MIDI means it, by what the hand has done and the view shows.
-pub record IsStruck (s : Setting) (view : ℕ) (b : Button) : Type 0 where
+-- ---- at which byte of a device it is heard
+
+-- Why a press of this button is heard at a byte, after these bytes of the device, the newest first: what the byte
+-- finishes after them is a message of MIDI that means it, by what the hand has done and the view shows.
+pub record IsStruckAt (s : Setting) (past : List ℕ) (byte : ℕ) (view : ℕ) (b : Button) : Type 0 where
   pub message : Heard
+  pub spells : heard_at past byte ≡ Some message
   pub hand : Hand
   pub shown : View
   pub press : Press
   pub means : Means s hand message shown press
   pub is : IsOfPress press b
 
--- Each press that the desk heard was struck, and the panel is set as before.
-pub record OnlyStruck (s s_then : Setting) (old new : Station) : Type 0 where
-  pub struck : HearsFor (IsStruck s) old new
+-- it is heard at one of these bytes, which come one after the other after those of the past
+abbrev pub IsStruckIn : Setting → (past bytes : List ℕ) → ℕ → Button → Type 0
+IsStruckIn s past [] view b = ⊥
+IsStruckIn s past (byte ∷ more) view b = IsStruckAt s past byte view b ⊎ IsStruckIn s (byte ∷ past) more view b
+
+-- it is heard at a byte that came after others
+pub record IsStruck (s : Setting) (view : ℕ) (b : Button) : Type 0 where
+  pub past : List ℕ
+  pub byte : ℕ
+  pub struck : IsStruckAt s past byte view b
+
+-- ---- what is pressed while a device is heard
+
+-- all bytes of a device, the newest first, once these have come after those of the past
+abbrev pub all_after : (past bytes : List ℕ) → List ℕ
+all_after past [] = past
+all_after past (byte ∷ more) = all_after (byte ∷ past) more
+
+-- Whatever the device gave before: each press that the desk heard was struck at one of these bytes.
+pub record StruckBy (s : Setting) (p : Parser) (bytes : List ℕ) (old new : Station) : Type 0 where
+  pub struck : (past : List ℕ) → IsAfter past p → HearsFor (IsStruckIn s past bytes) old new
+
+-- Whatever the device gave before: the parser has heard these bytes after it, each of them once and in order.
+pub record HearsAll (p : Parser) (bytes : List ℕ) (p_then : Parser) : Type 0 where
+  pub hears : (past : List ℕ) → IsAfter past p → IsAfter (all_after past bytes) p_then
+
+-- A parser has heard the bytes of a device so far.
+pub record HasHeard (p : Parser) : Type 0 where
+  pub past : List ℕ
+  pub after : IsAfter past p
+
+-- It has heard those of a device then, too: of the same, or of one that was opened since.
+pub record StillHears (p p_then : Parser) : Type 0 where
+  pub still : HasHeard p → HasHeard p_then
+
+-- Each press that the desk heard was struck at a byte of a device, after those before it, and the panel is set as
+-- before.
+pub record OnlyStruck (s s_then : Setting) (p p_then : Parser) (old new : Station) : Type 0 where
+  pub struck : HasHeard p → HearsFor (IsStruck s) old new
+  pub parser : StillHears p p_then
   pub setting : s_then ≡ s

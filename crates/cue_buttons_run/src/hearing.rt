@@ -1,6 +1,6 @@
 //! The device that is heard, and the rounds of a real desk.
 ghost use Rattle.std.specs.Prelude.{◌≡◌};
-ghost use Rattle.cue_buttons_run.specs.Pressing.{OnlyStruck};
+ghost use Rattle.cue_buttons_run.specs.Pressing.{OnlyStruck, StillHears};
 
 use crate::device::{Came, Device};
 use crate::panel::Panel;
@@ -50,6 +50,7 @@ enum Silence {
 
 impl<'a> Ear<'a> {
     // Opens the device, if it is due.
+    #[tactic(auto, using(crate::proofs::StruckLemmas::still_new, crate::proofs::StruckLemmas::still_same))]
     fn open<R: Files<File = File> + Net + Clock + AllocGlobal>(
         &mut self,
         rt: &R,
@@ -58,6 +59,7 @@ impl<'a> Ear<'a> {
     ) -> Result<(), AllocError>
         ensures desk { panel.new.desk ≡ panel.old.desk }
         ensures setting { panel.new.setting ≡ panel.old.setting }
+        ensures parser { StillHears panel.old.parser panel.new.parser }
     {
         let path = self.path;
         match Device::open(rt, panel.registry(), path) {
@@ -82,7 +84,8 @@ impl<'a> Ear<'a> {
         &mut self,
         panel: &mut Panel<'_, R>,
     ) -> Result<Result<bool, Silence>, AllocError>
-        ensures { OnlyStruck panel.old.setting panel.new.setting panel.old.desk.station panel.new.desk.station }
+        ensures { OnlyStruck panel.old.setting panel.new.setting panel.old.parser panel.new.parser
+            panel.old.desk.station panel.new.desk.station }
     {
         let Some(device) = &mut self.device else {
             return Ok(Ok(false));
@@ -109,7 +112,8 @@ impl<'a> Ear<'a> {
         &mut self,
         panel: &mut Panel<'_, R>,
     ) -> Result<Option<Silence>, AllocError>
-        ensures { OnlyStruck panel.old.setting panel.new.setting panel.old.desk.station panel.new.desk.station }
+        ensures { OnlyStruck panel.old.setting panel.new.setting panel.old.parser panel.new.parser
+            panel.old.desk.station panel.new.desk.station }
     {
         let most = if panel.is_settled() {
             PIECES
@@ -142,6 +146,7 @@ impl<'a> Ear<'a> {
     ) -> Result<bool, AllocError>
         ensures desk { panel.new.desk ≡ panel.old.desk }
         ensures setting { panel.new.setting ≡ panel.old.setting }
+        ensures parser { panel.new.parser ≡ panel.old.parser }
     {
         let path = self.path;
         self.device = None;
@@ -173,6 +178,7 @@ fn say_opening<W: Write>(alloc: Global, ear: &mut Ear<'_>, writer: &mut W) -> Re
 }
 
 // Opens the device if it is not open, and that is due.
+#[tactic(auto, using(crate::proofs::StruckLemmas::still_same))]
 fn open_if_due<R: Files<File = File> + Net + Clock + AllocGlobal, W: Write>(
     rt: &R,
     ear: &mut Ear<'_>,
@@ -182,6 +188,7 @@ fn open_if_due<R: Files<File = File> + Net + Clock + AllocGlobal, W: Write>(
 ) -> Result<(), Ending>
     ensures desk { panel.new.desk ≡ panel.old.desk }
     ensures setting { panel.new.setting ≡ panel.old.setting }
+    ensures parser { StillHears panel.old.parser panel.new.parser }
 {
     if ear.device.is_none() && ear.tries.is_due(now) {
         say_opening(rt.alloc(), ear, writer)?;
@@ -191,7 +198,7 @@ fn open_if_due<R: Files<File = File> + Net + Clock + AllocGlobal, W: Write>(
 }
 
 // Opens the device if it is not open, and hears what is there. Answers whether it has ended.
-#[tactic(auto, using(crate::proofs::StruckLemmas::struck_same, crate::proofs::StruckLemmas::struck_then))]
+#[tactic(auto, using(crate::proofs::StruckLemmas::struck_opened, crate::proofs::StruckLemmas::struck_same, crate::proofs::StruckLemmas::struck_then))]
 fn listen<R: Files<File = File> + Net + Clock + AllocGlobal, W: Write>(
     rt: &R,
     ear: &mut Ear<'_>,
@@ -199,7 +206,8 @@ fn listen<R: Files<File = File> + Net + Clock + AllocGlobal, W: Write>(
     now: u64,
     writer: &mut W,
 ) -> Result<bool, Ending>
-    ensures { OnlyStruck panel.old.setting panel.new.setting panel.old.desk.station panel.new.desk.station }
+    ensures { OnlyStruck panel.old.setting panel.new.setting panel.old.parser panel.new.parser
+        panel.old.desk.station panel.new.desk.station }
 {
     open_if_due(rt, ear, panel, now, writer)?;
     panel.begin(now);
@@ -222,7 +230,8 @@ fn hear_now<R: Files<File = File> + Net + Clock + Eprint + AllocGlobal, W: Write
     panel: &mut Panel<'_, R>,
     writer: &mut W,
 ) -> Result<bool, Ending>
-    ensures { OnlyStruck panel.old.setting panel.new.setting panel.old.desk.station panel.new.desk.station }
+    ensures { OnlyStruck panel.old.setting panel.new.setting panel.old.parser panel.new.parser
+        panel.old.desk.station panel.new.desk.station }
 {
     match panel.now() {
         Ok(now) => listen(rt, ear, panel, now, writer),
@@ -236,7 +245,8 @@ fn look<R: Files<File = File> + Net + Clock + Eprint + AllocGlobal>(
     rt: &R,
     panel: &mut Panel<'_, R>,
 ) -> Result<(), Ending>
-    ensures { OnlyStruck panel.old.setting panel.new.setting panel.old.desk.station panel.new.desk.station }
+    ensures { OnlyStruck panel.old.setting panel.new.setting panel.old.parser panel.new.parser
+        panel.old.desk.station panel.new.desk.station }
 {
     match panel.round() {
         Ok(()) => Ok(()),
@@ -252,6 +262,7 @@ fn tell<R: Files<File = File> + Net + Clock + Eprint + AllocGlobal, W: Write>(
 ) -> Result<(), Ending>
     ensures station { panel.new.desk.station ≡ panel.old.desk.station }
     ensures setting { panel.new.setting ≡ panel.old.setting }
+    ensures parser { panel.new.parser ≡ panel.old.parser }
 {
     let text = panel.take_text()?;
     if !text.is_empty() {
@@ -268,7 +279,8 @@ fn tell_on<R: Files<File = File> + Net + Clock + Eprint + AllocGlobal, W: Write>
     panel: &mut Panel<'_, R>,
     writer: &mut W,
 ) -> Result<(), Ending>
-    ensures { OnlyStruck panel.old.setting panel.new.setting panel.old.desk.station panel.new.desk.station }
+    ensures { OnlyStruck panel.old.setting panel.new.setting panel.old.parser panel.new.parser
+        panel.old.desk.station panel.new.desk.station }
 {
     tell(rt, panel, writer)
 }
@@ -280,7 +292,8 @@ fn round<R: Files<File = File> + Net + Clock + Eprint + AllocGlobal, W: Write>(
     panel: &mut Panel<'_, R>,
     writer: &mut W,
 ) -> Result<bool, Ending>
-    ensures { OnlyStruck panel.old.setting panel.new.setting panel.old.desk.station panel.new.desk.station }
+    ensures { OnlyStruck panel.old.setting panel.new.setting panel.old.parser panel.new.parser
+        panel.old.desk.station panel.new.desk.station }
 {
     let has_ended = hear_now(rt, ear, panel, writer)?;
     look(rt, panel)?;
@@ -294,7 +307,8 @@ fn wait<R: Files<File = File> + Net + Clock + Eprint + AllocGlobal>(
     rt: &R,
     panel: &mut Panel<'_, R>,
 ) -> Result<(), Ending>
-    ensures { OnlyStruck panel.old.setting panel.new.setting panel.old.desk.station panel.new.desk.station }
+    ensures { OnlyStruck panel.old.setting panel.new.setting panel.old.parser panel.new.parser
+        panel.old.desk.station panel.new.desk.station }
 {
     match panel.wait(PAUSE) {
         Ok(()) => Ok(()),
@@ -309,7 +323,8 @@ fn go_on<R: Files<File = File> + Net + Clock + Eprint + AllocGlobal, W: Write>(
     panel: &mut Panel<'_, R>,
     writer: &mut W,
 ) -> Result<bool, Ending>
-    ensures { OnlyStruck panel.old.setting panel.new.setting panel.old.desk.station panel.new.desk.station }
+    ensures { OnlyStruck panel.old.setting panel.new.setting panel.old.parser panel.new.parser
+        panel.old.desk.station panel.new.desk.station }
 {
     let has_ended = round(rt, ear, panel, writer)?;
     if !has_ended {
@@ -326,7 +341,8 @@ fn hear_on<R: Files<File = File> + Net + Clock + Eprint + AllocGlobal, W: Write>
     panel: &mut Panel<'_, R>,
     writer: &mut W,
 ) -> Result<(), Ending>
-    ensures { OnlyStruck panel.old.setting panel.new.setting panel.old.desk.station panel.new.desk.station }
+    ensures { OnlyStruck panel.old.setting panel.new.setting panel.old.parser panel.new.parser
+        panel.old.desk.station panel.new.desk.station }
 {
     for _ in 0..u64::MAX {
         if go_on(rt, ear, panel, writer)? {
@@ -346,7 +362,8 @@ pub fn hear_all<R: Files<File = File> + Net + Clock + Eprint + AllocGlobal, W: W
     panel: &mut Panel<'_, R>,
     writer: &mut W,
 ) -> Result<(), Ending>
-    ensures { OnlyStruck panel.old.setting panel.new.setting panel.old.desk.station panel.new.desk.station }
+    ensures { OnlyStruck panel.old.setting panel.new.setting panel.old.parser panel.new.parser
+        panel.old.desk.station panel.new.desk.station }
 {
     panel.say_keys()?;
     let mut ear = Ear {

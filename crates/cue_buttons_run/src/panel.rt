@@ -1,23 +1,22 @@
 //! What is heard of a real desk, and what it presses, as lines of text.
-ghost use Rattle.std.specs.Prelude.{◌≡◌};
-ghost use Rattle.cue_buttons_run.specs.Pressing.{AtMost, OnlyStruck, Strikes, StrikesSpoken, Takes};
+ghost use Rattle.std.specs.Prelude.{◌≡◌, [], ◌∷◌, OnOk};
+ghost use Rattle.cue_buttons_run.specs.Pressing.{AtMost, HearsAll, OnlyStruck, Strikes, StrikesSpoken};
+ghost use Rattle.cue_buttons_run.specs.Pressing.{StruckBy, Takes};
+ghost use Rattle.cue_midi.specs.Stream.{IsAfter};
 ghost use Rattle.cue_presses.specs.Address.{spoken_to};
 ghost use Rattle.cue_presses.specs.Hand.{comes_of};
 
 mod telling;
 
 use crate::pressing::{Outcome, press_at};
-use cue_board::unsent_words;
 use cue_desk_run::{Beat, Desk};
 use cue_midi::{Heard, Parser, Show};
 use cue_press_words::{button_words, intent_words, spoken_words, trouble_words, why_words};
-use cue_presses::taps::TAP_MS;
 use cue_presses::{
     Address, Hand, Intent, Keys, Passed, Press, Spoken, Struck, Tally, Why, intent_of,
     is_first_of_keys, is_of_keys, spoken_to,
 };
 use cue_view::button::Button;
-use cue_view::view::Unsent;
 use mio::Registry;
 use std::alloc::AllocError;
 use std::fmt::{Display, Write as _};
@@ -83,7 +82,10 @@ fn passed_of(heard: &Heard) -> Option<Passed> {
 
 impl<'a, R: Files<File = File> + Net + Clock + AllocGlobal> Panel<'a, R> {
     /// A panel over this desk, which has heard nothing.
-    pub fn new(rt: &'a R, desk: Desk<'a, R>, setting: Setting) -> Panel<'a, R> {
+    pub fn new(rt: &'a R, desk: Desk<'a, R>, setting: Setting) -> Panel<'a, R>
+        ensures unheard { IsAfter [] result.parser }
+        ensures setting { result.setting ≡ setting }
+    {
         let alloc = rt.alloc();
         Panel {
             rt,
@@ -115,6 +117,7 @@ impl<'a, R: Files<File = File> + Net + Clock + AllocGlobal> Panel<'a, R> {
     pub fn wait(&mut self, most: u64) -> io::Result<()>
         ensures station { self.new.desk.station ≡ self.old.desk.station }
         ensures setting { self.new.setting ≡ self.old.setting }
+        ensures parser { self.new.parser ≡ self.old.parser }
     {
         self.desk.wait(most)
     }
@@ -123,6 +126,7 @@ impl<'a, R: Files<File = File> + Net + Clock + AllocGlobal> Panel<'a, R> {
     pub fn take_fault(&mut self) -> Option<io::Error>
         ensures station { self.new.desk.station ≡ self.old.desk.station }
         ensures setting { self.new.setting ≡ self.old.setting }
+        ensures parser { self.new.parser ≡ self.old.parser }
     {
         self.desk.take_fault()
     }
@@ -131,6 +135,7 @@ impl<'a, R: Files<File = File> + Net + Clock + AllocGlobal> Panel<'a, R> {
     pub fn line<D: Display + Drop>(&mut self, what: D) -> Result<(), AllocError>
         ensures desk { self.new.desk ≡ self.old.desk }
         ensures setting { self.new.setting ≡ self.old.setting }
+        ensures parser { self.new.parser ≡ self.old.parser }
     {
         write!(self.text, "{what}\n")
     }
@@ -139,15 +144,17 @@ impl<'a, R: Files<File = File> + Net + Clock + AllocGlobal> Panel<'a, R> {
     pub fn take_text(&mut self) -> Result<String, AllocError>
         ensures desk { self.new.desk ≡ self.old.desk }
         ensures setting { self.new.setting ≡ self.old.setting }
+        ensures parser { self.new.parser ≡ self.old.parser }
     {
         let empty = String::new(self.rt.alloc());
         Ok(mem::replace(&mut self.text, empty))
     }
 
-    /// A device is opened at this moment.
+    /// A device is opened at this moment: nothing of it was heard.
     pub fn opened(&mut self, now: u64)
         ensures desk { self.new.desk ≡ self.old.desk }
         ensures setting { self.new.setting ≡ self.old.setting }
+        ensures parser { IsAfter [] self.new.parser }
     {
         self.parser = Parser::new();
         self.hand = self.hand.opened(now);
@@ -157,6 +164,7 @@ impl<'a, R: Files<File = File> + Net + Clock + AllocGlobal> Panel<'a, R> {
     pub fn begin(&mut self, now: u64)
         ensures desk { self.new.desk ≡ self.old.desk }
         ensures setting { self.new.setting ≡ self.old.setting }
+        ensures parser { self.new.parser ≡ self.old.parser }
     {
         self.hand = self.hand.begun(now);
     }
@@ -170,14 +178,19 @@ impl<'a, R: Files<File = File> + Net + Clock + AllocGlobal> Panel<'a, R> {
     pub fn emptied(&mut self)
         ensures desk { self.new.desk ≡ self.old.desk }
         ensures setting { self.new.setting ≡ self.old.setting }
+        ensures parser { self.new.parser ≡ self.old.parser }
     {
         self.hand = self.hand.emptied();
     }
 
-    /// Hears bytes. It presses nothing but what a key means that was struck, or a command that was spoken.
-    #[tactic(auto, using(crate::proofs::StruckLemmas::struck_none, crate::proofs::StruckLemmas::struck_then))]
+    /// Hears bytes that the device gave. It presses nothing but what a key means that was struck, or a command that was
+    /// spoken, at one of these bytes.
     pub fn hear(&mut self, bytes: &[u8]) -> Result<(), AllocError>
-        ensures { OnlyStruck self.old.setting self.new.setting self.old.desk.station self.new.desk.station }
+        ensures struck { StruckBy self.old.setting self.old.parser bytes.now self.old.desk.station
+            self.new.desk.station }
+        ensures hears { OnOk result (HearsAll self.old.parser bytes.now self.new.parser) }
+        ensures only { OnlyStruck self.old.setting self.new.setting self.old.parser self.new.parser
+            self.old.desk.station self.new.desk.station }
     {
         for byte in bytes {
             self.hear_byte(*byte)?;
@@ -186,9 +199,12 @@ impl<'a, R: Files<File = File> + Net + Clock + AllocGlobal> Panel<'a, R> {
     }
 
     // Hears a byte.
-    #[tactic(auto, using(crate::proofs::StruckLemmas::struck_takes, crate::proofs::StruckLemmas::struck_none))]
+    #[tactic(auto, using(crate::proofs::StruckLemmas::byte_takes, crate::proofs::StruckLemmas::by_none, crate::proofs::StruckLemmas::hears_byte))]
     fn hear_byte(&mut self, byte: u8) -> Result<(), AllocError>
-        ensures { OnlyStruck self.old.setting self.new.setting self.old.desk.station self.new.desk.station }
+        ensures struck { StruckBy self.old.setting self.old.parser (byte ∷ []) self.old.desk.station
+            self.new.desk.station }
+        ensures hears { HearsAll self.old.parser (byte ∷ []) self.new.parser }
+        ensures setting { self.new.setting ≡ self.old.setting }
     {
         match self.parser.hear(byte) {
             Some(heard) => self.take(&heard),
@@ -202,6 +218,7 @@ impl<'a, R: Files<File = File> + Net + Clock + AllocGlobal> Panel<'a, R> {
         ensures takes { Takes self.old.setting self.old.hand heard.now self.old.desk.station self.new.desk.station
             self.old.desk.view self.new.desk.view }
         ensures setting { self.new.setting ≡ self.old.setting }
+        ensures parser { self.new.parser ≡ self.old.parser }
     {
         if let Heard::Show(show) = heard {
             return self.take_show(show);
@@ -225,6 +242,7 @@ impl<'a, R: Files<File = File> + Net + Clock + AllocGlobal> Panel<'a, R> {
     fn say_first(&mut self, passed: Passed) -> Result<(), AllocError>
         ensures desk { self.new.desk ≡ self.old.desk }
         ensures setting { self.new.setting ≡ self.old.setting }
+        ensures parser { self.new.parser ≡ self.old.parser }
     {
         let words = passed.words(self.rt.alloc())?;
         let words = words.as_str();
@@ -237,6 +255,7 @@ impl<'a, R: Files<File = File> + Net + Clock + AllocGlobal> Panel<'a, R> {
     fn pass(&mut self, passed: Passed) -> Result<(), AllocError>
         ensures desk { self.new.desk ≡ self.old.desk }
         ensures setting { self.new.setting ≡ self.old.setting }
+        ensures parser { self.new.parser ≡ self.old.parser }
     {
         if self.tally.count(passed)? {
             let words = passed.words(self.rt.alloc())?;
@@ -251,6 +270,7 @@ impl<'a, R: Files<File = File> + Net + Clock + AllocGlobal> Panel<'a, R> {
         ensures strikes { StrikesSpoken (spoken_to self.old.setting.address show.now) self.old.hand
             self.old.desk.station self.new.desk.station self.old.desk.view self.new.desk.view }
         ensures setting { self.new.setting ≡ self.old.setting }
+        ensures parser { self.new.parser ≡ self.old.parser }
     {
         match spoken_to(&self.setting.address, show) {
             Spoken::Intent(intent) => self.intent("show control", &intent),
@@ -270,6 +290,7 @@ impl<'a, R: Files<File = File> + Net + Clock + AllocGlobal> Panel<'a, R> {
     fn takes_finger(&mut self) -> bool
         ensures desk { self.new.desk ≡ self.old.desk }
         ensures setting { self.new.setting ≡ self.old.setting }
+        ensures parser { self.new.parser ≡ self.old.parser }
     {
         let has_room = self.hand.has_room();
         if !has_room {
@@ -284,6 +305,7 @@ impl<'a, R: Files<File = File> + Net + Clock + AllocGlobal> Panel<'a, R> {
         ensures strikes { Strikes (comes_of self.old.hand self.old.desk.view intent.now) self.old.desk.station
             self.new.desk.station self.old.desk.view self.new.desk.view }
         ensures setting { self.new.setting ≡ self.old.setting }
+        ensures parser { self.new.parser ≡ self.old.parser }
     {
         let struck = self.hand.strikes(self.desk.view(), intent);
         self.hand = self.hand.counted();
@@ -308,6 +330,7 @@ impl<'a, R: Files<File = File> + Net + Clock + AllocGlobal> Panel<'a, R> {
     fn refuse(&mut self, source: &str, intent: &Intent, why: Why) -> Result<(), AllocError>
         ensures desk { self.new.desk ≡ self.old.desk }
         ensures setting { self.new.setting ≡ self.old.setting }
+        ensures parser { self.new.parser ≡ self.old.parser }
     {
         let alloc = self.rt.alloc();
         let words = match trouble_words(alloc, self.desk.view(), self.setting.port)? {
@@ -325,6 +348,7 @@ impl<'a, R: Files<File = File> + Net + Clock + AllocGlobal> Panel<'a, R> {
         ensures presses { AtMost press.now self.old.desk.station self.new.desk.station self.old.desk.view
             self.new.desk.view }
         ensures setting { self.new.setting ≡ self.old.setting }
+        ensures parser { self.new.parser ≡ self.old.parser }
     {
         let alloc = self.rt.alloc();
         let button = button_words(alloc, press.button, self.desk.together())?;
@@ -344,6 +368,7 @@ impl<'a, R: Files<File = File> + Net + Clock + AllocGlobal> Panel<'a, R> {
     fn note(&mut self, button: Button, ask: u64, what: String)
         ensures desk { self.new.desk ≡ self.old.desk }
         ensures setting { self.new.setting ≡ self.old.setting }
+        ensures parser { self.new.parser ≡ self.old.parser }
     {
         let passed = self.hand.passed;
         self.hand = self.hand.sent(self.desk.view(), button);
@@ -355,36 +380,5 @@ impl<'a, R: Files<File = File> + Net + Clock + AllocGlobal> Panel<'a, R> {
             passed,
         };
         self.before = mem::replace(&mut self.pending, Some(newest));
-    }
-
-    // Whether the newest press, of which the end is not told yet, is the same one, and is less than a second old: it is
-    // the second tap of one finger.
-    fn is_tapped(&self, what: &str) -> bool {
-        match &self.pending {
-            Some(pending) => {
-                pending.what.as_str() == what && self.hand.at.saturating_sub(pending.since) < TAP_MS
-            }
-            None => false,
-        }
-    }
-
-    // Says why a press was not sent.
-    fn say_unsent(&mut self, what: &str, unsent: Unsent) -> Result<(), AllocError>
-        ensures desk { self.new.desk ≡ self.old.desk }
-        ensures setting { self.new.setting ≡ self.old.setting }
-    {
-        if self.is_tapped(what) {
-            return self.line(format_args!("{what}: a second tap within a second: nothing is sent"));
-        }
-        match trouble_words(self.rt.alloc(), self.desk.view(), self.setting.port)? {
-            Some(words) => {
-                let words = words.as_str();
-                self.line(format_args!("{what}: not sent: {words}"))
-            }
-            None => {
-                let words = unsent_words(unsent);
-                self.line(format_args!("{what}: {words}"))
-            }
-        }
     }
 }

@@ -3,9 +3,10 @@ ghost use Rattle.std.specs.Prelude.{◌≡◌};
 ghost use Rattle.cue_desk_run.specs.Working.{OnlyLooks};
 
 use crate::panel::{Panel, Pending};
-use cue_board::became_words;
-use cue_press_words::key_words;
-use cue_view::view::Became;
+use cue_board::{became_words, unsent_words};
+use cue_press_words::{key_words, trouble_words};
+use cue_presses::taps::TAP_MS;
+use cue_view::view::{Became, Unsent};
 use std::alloc::AllocError;
 use std::fs::{File, Files};
 use std::net::Net;
@@ -48,6 +49,7 @@ impl<R: Files<File = File> + Net + Clock + AllocGlobal> Panel<'_, R> {
     pub fn say_keys(&mut self) -> Result<(), AllocError>
         ensures desk { self.new.desk ≡ self.old.desk }
         ensures setting { self.new.setting ≡ self.old.setting }
+        ensures parser { self.new.parser ≡ self.old.parser }
     {
         let (alloc, keys) = (self.rt.alloc(), &self.setting.keys);
         let standby = key_words(alloc, keys.standby)?;
@@ -63,6 +65,7 @@ impl<R: Files<File = File> + Net + Clock + AllocGlobal> Panel<'_, R> {
     pub fn say_tally(&mut self) -> Result<(), AllocError>
         ensures desk { self.new.desk ≡ self.old.desk }
         ensures setting { self.new.setting ≡ self.old.setting }
+        ensures parser { self.new.parser ≡ self.old.parser }
     {
         let text = self.tally.text(self.rt.alloc())?;
         if text.is_empty() {
@@ -76,6 +79,7 @@ impl<R: Files<File = File> + Net + Clock + AllocGlobal> Panel<'_, R> {
     pub fn round(&mut self) -> io::Result<()>
         ensures looks { OnlyLooks self.old.desk.station self.new.desk.station }
         ensures setting { self.new.setting ≡ self.old.setting }
+        ensures parser { self.new.parser ≡ self.old.parser }
     {
         self.desk.round()?;
         self.say_pending()?;
@@ -97,6 +101,7 @@ impl<R: Files<File = File> + Net + Clock + AllocGlobal> Panel<'_, R> {
     fn say_became(&mut self, what: &str, became: Became) -> Result<(), AllocError>
         ensures desk { self.new.desk ≡ self.old.desk }
         ensures setting { self.new.setting ≡ self.old.setting }
+        ensures parser { self.new.parser ≡ self.old.parser }
     {
         let words = became_words(self.rt.alloc(), became, self.setting.port)?;
         let words = words.as_str();
@@ -108,6 +113,7 @@ impl<R: Files<File = File> + Net + Clock + AllocGlobal> Panel<'_, R> {
     fn say_press(&mut self, pending: Pending) -> Result<Option<Pending>, AllocError>
         ensures desk { self.new.desk ≡ self.old.desk }
         ensures setting { self.new.setting ≡ self.old.setting }
+        ensures parser { self.new.parser ≡ self.old.parser }
     {
         let Some(became) = self.became(pending.ask) else {
             return Ok(Some(pending));
@@ -129,6 +135,7 @@ impl<R: Files<File = File> + Net + Clock + AllocGlobal> Panel<'_, R> {
     fn say_pending(&mut self) -> Result<(), AllocError>
         ensures desk { self.new.desk ≡ self.old.desk }
         ensures setting { self.new.setting ≡ self.old.setting }
+        ensures parser { self.new.parser ≡ self.old.parser }
     {
         if let Some(before) = self.before.take() {
             self.before = self.say_press(before)?;
@@ -147,6 +154,7 @@ impl<R: Files<File = File> + Net + Clock + AllocGlobal> Panel<'_, R> {
     fn say_dropped(&mut self) -> Result<(), AllocError>
         ensures desk { self.new.desk ≡ self.old.desk }
         ensures setting { self.new.setting ≡ self.old.setting }
+        ensures parser { self.new.parser ≡ self.old.parser }
     {
         if self.waited > 0 && self.hand.settling.is_over() {
             let waited = mem::replace(&mut self.waited, 0);
@@ -161,5 +169,37 @@ impl<R: Files<File = File> + Net + Clock + AllocGlobal> Panel<'_, R> {
             self.line(format_args!("{flooded} {presses} more at once than fingers: dropped"))?;
         }
         Ok(())
+    }
+
+    // Whether the newest press, of which the end is not told yet, is the same one, and is less than a second old: it is
+    // the second tap of one finger.
+    fn is_tapped(&self, what: &str) -> bool {
+        match &self.pending {
+            Some(pending) => {
+                pending.what.as_str() == what && self.hand.at.saturating_sub(pending.since) < TAP_MS
+            }
+            None => false,
+        }
+    }
+
+    // Says why a press was not sent.
+    pub(super) fn say_unsent(&mut self, what: &str, unsent: Unsent) -> Result<(), AllocError>
+        ensures desk { self.new.desk ≡ self.old.desk }
+        ensures setting { self.new.setting ≡ self.old.setting }
+        ensures parser { self.new.parser ≡ self.old.parser }
+    {
+        if self.is_tapped(what) {
+            return self.line(format_args!("{what}: a second tap within a second: nothing is sent"));
+        }
+        match trouble_words(self.rt.alloc(), self.desk.view(), self.setting.port)? {
+            Some(words) => {
+                let words = words.as_str();
+                self.line(format_args!("{what}: not sent: {words}"))
+            }
+            None => {
+                let words = unsent_words(unsent);
+                self.line(format_args!("{what}: {words}"))
+            }
+        }
     }
 }

@@ -17,13 +17,13 @@ use std::time::Clock;
 // Tells it: what is done on the output, and all else on standard error.
 fn tell<R: Eprint + AllocGlobal, W: Write>(
     rt: &R,
-    answer: Answer,
+    answer: &Answer,
     writer: &mut W,
 ) -> Result<(), Ending> {
     match answer.told.ending() {
         None => print(writer, format!(in rt.alloc(); "{answer}\n")?.as_str()),
         Some(ending) => {
-            say(rt, answer);
+            say(rt, format_args!("{answer}"));
             Err(ending)
         }
     }
@@ -119,6 +119,35 @@ fn place_before<R: Net + Clock + AllocGlobal>(
     }
 }
 
+// Asks this; who asks is said first, if there is a name.
+fn ask_named<R: Net + Clock + AllocGlobal>(
+    rt: &R,
+    order: DeskCommand,
+    others: &[CueNo],
+    port: u16,
+    name: &Option<AskerName>,
+) -> io::Result<AskEnd> {
+    match name {
+        Some(name) => ask_as(rt, order, others, port, Some(name.text())),
+        None => ask_as(rt, order, others, port, None),
+    }
+}
+
+// Tells how a command ended; after a move from this place, how to go back.
+fn tell_end<R: Eprint + AllocGlobal, W: Write>(
+    rt: &R,
+    end: &AskEnd,
+    order: DeskCommand,
+    before: Option<Option<CueNo>>,
+    port: u16,
+    writer: &mut W,
+) -> Result<(), Ending> {
+    let told = Told::of(end);
+    let answer = Answer { told, order, port };
+    tell(rt, &answer, writer)?;
+    tell_way_back(rt, WayBack::of(told, before), port, writer)
+}
+
 /// Asks one thing of the controller, once, and says in words what it replied, within a second; a cue is stood by with
 /// these others. Who asks is said first, if there is a name. After a move it says how to go back.
 pub fn carry_order<R: Net + Clock + Eprint + AllocGlobal, W: Write>(
@@ -130,16 +159,8 @@ pub fn carry_order<R: Net + Clock + Eprint + AllocGlobal, W: Write>(
     writer: &mut W,
 ) -> Result<(), Ending> {
     let before = place_before(rt, order, port);
-    let ended = match &name {
-        Some(name) => ask_as(rt, order, others, port, Some(name.text())),
-        None => ask_as(rt, order, others, port, None),
-    };
-    match ended {
-        Ok(end) => {
-            let told = Told::of(&end);
-            tell(rt, Answer { told, order, port }, writer)?;
-            tell_way_back(rt, WayBack::of(told, before), port, writer)
-        }
+    match ask_named(rt, order, others, port, &name) {
+        Ok(end) => tell_end(rt, &end, order, before, port, writer),
         Err(why) => {
             say(rt, format_args!("no socket: {why}"));
             Err(Ending::Failed)

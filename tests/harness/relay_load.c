@@ -2,10 +2,11 @@
    k is at the k-th port of each.
 
    relay_load ping CONTROLLER_PORT FIRST_LOCAL FIRST_DEVICE DEVICES COUNT
-        an order and its answer through the relay, one after the other, the devices by turns, so that none has more
-        than its rate: microseconds of each, the median
+        a GO and its answer through the relay, one after the other, the devices by turns, so that none has more
+        than its rate: microseconds of each, the median. A copy of a GO that comes late is passed over
    relay_load flow CONTROLLER_PORT FIRST_LOCAL FIRST_DEVICE DEVICES ORDERS ANSWERS SECONDS
-        so many orders a second for each device, and so many answers of each: how many were sent and came
+        so many cancels a second for each device, of which no relay makes copies, and so many answers of each: how many
+        were sent and came
    relay_load strangers FIRST_LOCAL PORTS COUNT
         datagrams of nobody whom the relay knows, to both of its sides */
 #include <arpa/inet.h>
@@ -52,9 +53,12 @@ static int put_number(uint8_t *bytes, int at, uint32_t number) {
   return at + 4;
 }
 
-/* /msc/go_2pc ,ii: the attempt's number, and the device's. */
-static void order(int wire, const char *host, int port, int device, uint32_t seq) {
-  uint8_t bytes[LENGTH] = "/msc/go_2pc\0,ii";
+/* An order, ,ii: the attempt's number, and the device's. */
+static const char GO[] = "/msc/go_2pc\0,ii", CANCEL[] = "/msc/cancel\0,ii";
+
+static void order(const char *what, int wire, const char *host, int port, int device, uint32_t seq) {
+  uint8_t bytes[LENGTH];
+  memcpy(bytes, what, 16);
   put(wire, host, port, bytes, put_number(bytes, put_number(bytes, 16, seq), device));
 }
 
@@ -87,12 +91,15 @@ static void bind_all(int controller_port, int device, int count) {
   sockets[count] = bound(CONTROLLER, controller_port);
 }
 
-/* Whether something comes at the socket within two seconds. */
-static int hears(int wire, uint64_t begun) {
-  char bytes[LENGTH];
-  while (recv(wire, bytes, LENGTH, MSG_DONTWAIT) <= 0)
-    if (nanoseconds() - begun > 2000000000ull) return 0;
-  return 1;
+/* Whether what has this number, so many bytes before its end, comes at the socket within two seconds. */
+static int hears(int wire, uint64_t begun, int before, uint32_t seq) {
+  uint8_t bytes[LENGTH], wanted[4];
+  put_number(wanted, 0, seq);
+  for (;;) {
+    int length = recv(wire, bytes, LENGTH, MSG_DONTWAIT);
+    if (length >= before && !memcmp(bytes + length - before, wanted, 4)) return 1;
+    if (length <= 0 && nanoseconds() - begun > 2000000000ull) return 0;
+  }
 }
 
 static int ping(int controller_port, int local, int device, int count, int rounds) {
@@ -101,10 +108,10 @@ static int ping(int controller_port, int local, int device, int count, int round
   for (int k = 0; k < rounds; k++) {
     int one = k % count;
     uint64_t begun = nanoseconds();
-    order(sockets[count], CONTROLLER, local + one, one, k + 1);
-    if (!hears(sockets[one], begun)) return puts("lost"), 1;
+    order(GO, sockets[count], CONTROLLER, local + one, one, k + 1);
+    if (!hears(sockets[one], begun, 8, k + 1)) return puts("lost"), 1;
     answer(sockets[one], RELAY, local + one, one, k + 1);
-    if (!hears(sockets[count], begun)) return puts("lost"), 1;
+    if (!hears(sockets[count], begun, 4, k + 1)) return puts("lost"), 1;
     took[k] = nanoseconds() - begun;
   }
   qsort(took, rounds, sizeof *took, by_size);
@@ -136,7 +143,7 @@ static int flow(int controller_port, int local, int device, int count, int order
   for (uint64_t round = 0; round < rounds; round++) {
     int is_answered = round * answers / orders != (round + 1) * answers / orders;
     for (int k = 0; k < count; k++) {
-      order(sockets[count], CONTROLLER, local + k, k, round + 1);
+      order(CANCEL, sockets[count], CONTROLLER, local + k, k, round + 1);
       if (is_answered) answer(sockets[k], RELAY, local + k, k, round + 1);
       sent += 1 + is_answered;
     }
@@ -155,7 +162,7 @@ static int strangers(int local, int ports, int count) {
   int near = bound(CONTROLLER, 0), far = bound(DEVICES, 0);
   for (int k = 0; k < count; k++) {
     int one = k / 2 % ports;
-    if (k % 2) order(near, CONTROLLER, local + one, one, k + 1);
+    if (k % 2) order(GO, near, CONTROLLER, local + one, one, k + 1);
     else answer(far, RELAY, local + one, one, k + 1);
     if (k % 32 == 31) nanosleep(&(struct timespec){0, 100000}, NULL);
   }

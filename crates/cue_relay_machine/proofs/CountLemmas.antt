@@ -1,8 +1,8 @@
 -- What a life counts.
-use Rattle.std.proofs.Common.{◌≡◌, ℕ, suc, ◌+◌, ◌-◌, ◌<◌, ◌≤◌, ◌^◌, Bool, true, false, cond, List, [], ◌∷◌, ◌++◌}
+use Rattle.std.proofs.Common.{◌≡◌, ℕ, suc, ◌+◌, ◌-◌, ◌<◌, ◌≤◌, Bool, true, false, cond, List, [], ◌∷◌, ◌++◌}
 use Rattle.std.proofs.Common.{length, map}
 use Rattle.std.proofs.Common.{Option, Some, None, refl, sym, ap, ◌∙◌, subst, arith, length-append}
-use Rattle.std.specs.Prelude.{count_by, drop, get_or, slice_get, nat_lt}
+use Rattle.std.specs.Prelude.{count_by, drop, get_or, slice_get}
 use Rattle.std.proofs.lemmas.Bool.{lt-ltb}
 use Rattle.std.proofs.lemmas.List.{map-append}
 use Rattle.std.proofs.lemmas.List.Sums.{sum_by-append}
@@ -11,7 +11,7 @@ use Rattle.cue_machine.specs.declared.ears.Input.{Input}
 use Rattle.cue_machine.specs.declared.ears.Input.TheVariants as input
 use Rattle.cue_machine.specs.declared.post.Output.{Output}
 use Rattle.cue_machine.specs.declared.post.Output.TheVariants as output
-use Rattle.cue_machine.specs.Living.{AreTurns, IsTurn, Turn, after_loss_of, after_losses, all_posted}
+use Rattle.cue_machine.specs.Living.{AreTurns, Turn, after_loss_of, after_losses}
 use Rattle.cue_machine.specs.Posting.{Given, Posted, given_as, given_of, posted_as}
 use Rattle.cue_relay.specs.declared.going.Going.{Going}
 use Rattle.cue_relay.specs.declared.relaying.Counts.{Counts}
@@ -19,13 +19,14 @@ use Rattle.cue_relay.specs.Relayed.{Answer, Sending, comes, ticks, goes_on, is_d
 use Rattle.cue_relay_machine.specs.declared.books.Books.{Books}
 use Rattle.cue_relay_machine.specs.declared.known.Known.{Known}
 use Rattle.cue_relay_machine.specs.declared.machine.RelayMachine.{RelayMachine}
-use Rattle.cue_relay_machine.specs.Books.{counted, highest, is_due, one_dropped, one_lost, one_passed}
-use Rattle.cue_relay_machine.specs.Laws.{Adds, CountsAll, HadTurns, is_lost_sending, total}
-use Rattle.cue_relay_machine.specs.Lives.{answer_as, answer_of, handed_in, relay_machine, sending_as, sendings}
+use Rattle.cue_relay_machine.specs.Books.{books_lost, counted, highest, is_due, one_dropped, one_lost, one_passed}
+use Rattle.cue_relay_machine.specs.Laws.{Adds, CountsAll, is_lost_sending, total}
+use Rattle.cue_relay_machine.specs.Lives.{relay_machine}
 use Rattle.cue_relay_machine.specs.Places.{across_from, machine_address, opening_at}
-use Rattle.cue_relay_machine.specs.Steps.{State, Steps, after_loss, books_after, came, gives, going_given, state_of}
-use Rattle.cue_relay_machine.specs.Steps.{state_then, state_ticked, tick_given, told_given}
-use Rattle.cue_relay_machine.proofs.LifeLemmas.{none_if, sendings_both, tick_none, told_none}
+use Rattle.cue_relay_machine.specs.Steps.{State, after_loss, books_after, came, gives, going_given, state_of}
+use Rattle.cue_relay_machine.specs.Steps.{state_then, state_ticked, state_woken, told_given}
+use Rattle.cue_relay_machine.specs.Turns.{all_at_once, answer_as, answer_of, at_once, sending_as, sendings}
+use Rattle.cue_relay_machine.proofs.LifeLemmas.{sendings_both, told_none}
 
 count_both : (xs ys : List Posted)
     → count_by is_lost_sending (xs ++ ys) ≡ count_by is_lost_sending xs + count_by is_lost_sending ys
@@ -87,10 +88,10 @@ sent_one b by to false fits =
     let passed = counted_is b.counts.passed (omega (arith, fits)) in
     (omega arith, omega (arith, passed), omega (arith, passed))
 
-lossy_books : (m : RelayMachine) (x : Output) (b : Bool)
-    → (cond b (after_loss m x) m).books ≡ cond b (one_lost m.books x) m.books
-lossy_books m x true = refl
-lossy_books m x false = refl
+lossy_books : (m : RelayMachine) (by : ℕ) (to : machine.Address) (b : Bool) → m.woken ≡ false
+    → (cond b (after_loss m (output.Send by to)) m).books ≡ cond b (one_lost m.books (output.Send by to)) m.books
+lossy_books m by to true e = ap (λ (w : Bool). books_lost w m.books (output.Send by to)) e
+lossy_books m by to false e = refl
 
 lost_one : (by : ℕ) (to : machine.Address) (bytes : List ℕ) (lost : Bool)
     → count_by is_lost_sending (posted_as (output.Send by to) bytes lost ∷ []) ≡ cond lost 1 0
@@ -100,15 +101,16 @@ lost_one by to bytes false = refl
 -- it goes on, and of what else was posted nothing is a datagram
 going_one : (m mid : RelayMachine) (by : ℕ) (to : machine.Address) (bytes : List ℕ) (lost : Bool) (ps : List Posted)
     → total m.books.counts < highest → sendings (map given_of ps) ≡ [] → mid.books ≡ one_passed m.books
+    → mid.woken ≡ false
     → Adds m.books.counts
     (after_losses after_loss (posted_as (output.Send by to) bytes lost ∷ ps) mid).books.counts 1
     (posted_as (output.Send by to) bytes lost ∷ ps)
-going_one m mid by to bytes lost ps fits none f =
+going_one m mid by to bytes lost ps fits none f woken =
     let p : Posted = posted_as (output.Send by to) bytes lost in
     let q = quiet ps (after_loss_of after_loss p mid) none in
     let base : (after_loss_of after_loss p mid).books.counts
     ≡ (cond lost (one_lost (one_passed m.books) (output.Send by to)) (one_passed m.books)).counts =
-    ap (λ (b : Books). b.counts) (lossy_books mid (output.Send by to) lost)
+    ap (λ (b : Books). b.counts) (lossy_books mid by to lost woken)
     ∙ ap (λ (b : Books). (cond lost (one_lost b (output.Send by to)) b).counts) f in
     let one = sent_one m.books by to lost fits in
     let lost_all : count_by is_lost_sending (p ∷ ps) ≡ cond lost 1 0 =
@@ -123,11 +125,11 @@ going_one m mid by to bytes lost ps fits none f =
 going_adds : (m mid : RelayMachine) (date : List ℕ) (known : List Known) (at : ℕ) (bytes : List ℕ) (o : Option Going)
     (ps : List Posted)
     → total m.books.counts < highest → map given_of ps ≡ going_given date known at bytes o
-    → mid.books ≡ books_after m.books o
+    → mid.books ≡ books_after m.books o → mid.woken ≡ false
     → Adds m.books.counts (after_losses after_loss ps mid).books.counts 1 ps
-going_adds m mid date known at bytes None ps fits e f = drops m mid ps fits e f
-going_adds m mid date known at bytes (Some g) [] fits e f = absurd (omega (arith, ap length e))
-going_adds m mid date known at bytes (Some g) (p ∷ ps) fits e f =
+going_adds m mid date known at bytes None ps fits e f woken = drops m mid ps fits e f
+going_adds m mid date known at bytes (Some g) [] fits e f woken = absurd (omega (arith, ap length e))
+going_adds m mid date known at bytes (Some g) (p ∷ ps) fits e f woken =
     let send : Given = given_as (output.Send (across_from at) (machine_address g.way.to)) bytes in
     let first : p.given ≡ send = ap (λ (gs : List Given). get_or gs 0 send) e in
     let rest : map given_of ps ≡ told_given date (slice_get known (opening_at at).route) g.message = ap (drop 1) e in
@@ -137,9 +139,29 @@ going_adds m mid date known at bytes (Some g) (p ∷ ps) fits e f =
     ap (λ (x : Given). record { given = x; lost = p.lost }) first in
     subst (λ (x : Posted). Adds m.books.counts (after_losses after_loss (x ∷ ps) mid).books.counts 1 (x ∷ ps))
     (sym same)
-    (going_one m mid (across_from at) (machine_address g.way.to) bytes p.lost ps fits none f)
+    (going_one m mid (across_from at) (machine_address g.way.to) bytes p.lost ps fits none f woken)
 
 -- ---- turns
+
+-- what was lost of what was given at a wake changes no count
+woken_one : (m : RelayMachine) (x : Output) (b : Bool) → m.woken ≡ true
+    → ((cond b (after_loss m x) m).books.counts ≡ m.books.counts) × ((cond b (after_loss m x) m).woken ≡ true)
+woken_one m (output.Send by to) true e =
+    (ap (λ (w : Bool). (books_lost w m.books (output.Send by to)).counts) e, e)
+woken_one m output.Print true e = (refl, e)
+woken_one m output.Say true e = (refl, e)
+woken_one m output.Replace true e = (refl, e)
+woken_one m x false e = (refl, e)
+
+woken_counts : (ps : List Posted) (m : RelayMachine) → m.woken ≡ true
+    → (after_losses after_loss ps m).books.counts ≡ m.books.counts
+woken_counts [] m e = refl
+woken_counts (p ∷ ps) m e =
+    let one = woken_one m p.given.output p.lost e in
+    woken_counts ps (after_loss_of after_loss p m) one.1 ∙ one.0
+
+nothing_adds : (c d : Counts) → d ≡ c → Adds c d 0 []
+nothing_adds c d e = rw e (omega arith, omega arith, omega arith)
 
 quiet_adds : (m mid : RelayMachine) (ps : List Posted) → sendings (map given_of ps) ≡ []
     → mid.books.counts ≡ m.books.counts → Adds m.books.counts (after_losses after_loss ps mid).books.counts 0 ps
@@ -147,7 +169,8 @@ quiet_adds m mid ps none e =
     let q = quiet ps mid none in
     rw (q.0 ∙ e) (omega (arith, q.1), omega (arith, ap length none), omega arith)
 
-ticked_counts : (s : State) (now : ℕ) (b : Bool) → (cond b (state_ticked s now) s).books.counts ≡ s.books.counts
+ticked_counts : (s : State) (now : ℕ) (b : Bool)
+    → (state_woken (cond b (state_ticked s now) s) now).books.counts ≡ s.books.counts
 ticked_counts s now true = refl
 ticked_counts s now false = refl
 
@@ -155,16 +178,16 @@ turn_adds : (m mid : RelayMachine) (now : ℕ) (i : Input) (bytes : List ℕ) (p
     → total m.books.counts < highest → map given_of ps ≡ gives date (state_of m) now i bytes
     → state_of mid ≡ state_then (state_of m) now i bytes
     → Adds m.books.counts (after_losses after_loss ps mid).books.counts
-    (count_by is_datagram (answer_as now i bytes ∷ [])) ps
+    (count_by is_datagram (answer_as now i bytes ∷ [])) (at_once i ps)
 turn_adds m mid now (input.Datagram at from) bytes ps date fits e f =
     going_adds m mid date m.known.items at bytes (goes_on m.relay m.meters.items (came now at from bytes)) ps fits e
-    (ap (λ (s : State). s.books) f)
+    (ap (λ (s : State). s.books) f) (ap (λ (s : State). s.woken) f)
 turn_adds m mid now (input.Refused at) bytes ps date fits e f =
     quiet_adds m mid ps (ap sendings e) (ap (λ (s : State). s.books.counts) f)
 turn_adds m mid now input.Wake bytes ps date fits e f =
-    quiet_adds m mid ps
-    (ap sendings e ∙ none_if (is_due m.books now) (tick_given date (state_of m) now) (tick_none date (state_of m) now))
-    (ap (λ (s : State). s.books.counts) f ∙ ticked_counts (state_of m) now (is_due m.books now))
+    nothing_adds m.books.counts (after_losses after_loss ps mid).books.counts
+    (woken_counts ps mid (ap (λ (s : State). s.woken) f)
+    ∙ (ap (λ (s : State). s.books.counts) f ∙ ticked_counts (state_of m) now (is_due m.books now)))
 
 length_both : (xs ys : List Posted) → length (sendings (map given_of (xs ++ ys)))
     ≡ length (sendings (map given_of xs)) + length (sendings (map given_of ys))
@@ -182,24 +205,25 @@ came_at_most (ticks now) = omega arith
 
 turns_add : (m : RelayMachine) (ts : List Turn) (m_then : RelayMachine) → AreTurns relay_machine m ts m_then
     → total m.books.counts + length ts ≤ highest
-    → Adds m.books.counts m_then.books.counts (count_by is_datagram (map answer_of ts)) (all_posted ts)
+    → Adds m.books.counts m_then.books.counts (count_by is_datagram (map answer_of ts)) (all_at_once ts)
 turns_add m [] m_then h fits = rw h (omega arith, omega arith, omega arith)
 turns_add m (t ∷ ts) m_then h fits =
     let step = h.1.stepped in
     let less : total m.books.counts < highest = omega (arith, fits) in
-    let one : Adds m.books.counts h.0.books.counts (count_by is_datagram (answer_of t ∷ [])) t.posted =
-    subst (λ (x : RelayMachine). Adds m.books.counts x.books.counts (count_by is_datagram (answer_of t ∷ [])) t.posted)
+    let posted : List Posted = at_once t.heard.input t.posted in
+    let one : Adds m.books.counts h.0.books.counts (count_by is_datagram (answer_of t ∷ [])) posted =
+    subst (λ (x : RelayMachine). Adds m.books.counts x.books.counts (count_by is_datagram (answer_of t ∷ [])) posted)
     (sym h.1.after)
     (turn_adds m h.1.mid t.heard.now t.heard.input t.heard.bytes t.posted step.date less step.gave step.left) in
     let room : total h.0.books.counts + length ts ≤ highest =
     omega (arith, fits, one.2, came_at_most (answer_of t)) in
     let more = turns_add h.0 ts m_then h.2 room in
-    let lost : count_by is_lost_sending (all_posted (t ∷ ts))
-    ≡ count_by is_lost_sending t.posted + count_by is_lost_sending (all_posted ts) =
-    count_both t.posted (all_posted ts) in
-    let sent : length (sendings (map given_of (all_posted (t ∷ ts))))
-    ≡ length (sendings (map given_of t.posted)) + length (sendings (map given_of (all_posted ts))) =
-    length_both t.posted (all_posted ts) in
+    let lost : count_by is_lost_sending (all_at_once (t ∷ ts))
+    ≡ count_by is_lost_sending posted + count_by is_lost_sending (all_at_once ts) =
+    count_both posted (all_at_once ts) in
+    let sent : length (sendings (map given_of (all_at_once (t ∷ ts))))
+    ≡ length (sendings (map given_of posted)) + length (sendings (map given_of (all_at_once ts))) =
+    length_both posted (all_at_once ts) in
     let came : count_by is_datagram (map answer_of (t ∷ ts))
     ≡ count_by is_datagram (answer_of t ∷ []) + count_by is_datagram (map answer_of ts) =
     came_both (answer_of t) (map answer_of ts) in (
@@ -213,5 +237,5 @@ counts-all m ts m_then h fits =
     let none : Counts = record { passed = 0; lost = 0; dropped = 0 } in
     let start : m.books.counts ≡ none = ap (λ (s : State). s.books.counts) h.new in
     let room : total m.books.counts + length ts ≤ highest = omega (arith, fits, ap total start) in
-    subst (λ (c : Counts). Adds c m_then.books.counts (count_by is_datagram (map answer_of ts)) (all_posted ts)) start
+    subst (λ (c : Counts). Adds c m_then.books.counts (count_by is_datagram (map answer_of ts)) (all_at_once ts)) start
     (turns_add m ts m_then h.turns room)

@@ -1,4 +1,9 @@
+pub mod AgainLemmas
+pub mod CopyLemmas
 pub mod CountLemmas
 pub mod LawLemmas
 pub mod LifeLemmas
+pub mod PastLemmas
 pub mod StepLemmas
+pub mod StillLemmas
+pub mod WaitLemmas

@@ -1,7 +1,7 @@
 -- What a life hands on, turn by turn.
-use Rattle.std.proofs.Common.{◌≡◌, ◌≢◌, ℕ, zero, suc, ◌+◌, ◌-◌, ◌/◌, ◌%◌, ◌==◌, Bool, true, false, cond, List, []}
+use Rattle.std.proofs.Common.{◌≡◌, ◌≢◌, ℕ, ◌+◌, ◌-◌, ◌/◌, ◌%◌, ◌==◌, Bool, true, false, cond, List, []}
 use Rattle.std.proofs.Common.{◌∷◌, ◌++◌}
-use Rattle.std.proofs.Common.{map, Option, Some, None, refl, sym, ap, ◌∙◌, subst, arith, append_assoc}
+use Rattle.std.proofs.Common.{map, Option, Some, None, refl, sym, ap, ◌∙◌, subst, arith, append-nil, append_assoc}
 use Rattle.std.specs.Prelude.{slice_get}
 use Rattle.std.proofs.lemmas.Bool.{eqb-true, eqb-false}
 use Rattle.std.proofs.lemmas.List.{map-append}
@@ -11,8 +11,7 @@ use Rattle.cue_machine.specs.declared.ears.Input.TheVariants as input
 use Rattle.cue_machine.specs.declared.address.Address as machine
 use Rattle.cue_machine.specs.declared.post.Output.{Output}
 use Rattle.cue_machine.specs.declared.post.Output.TheVariants as output
-use Rattle.cue_machine.specs.Hearing.{Heard}
-use Rattle.cue_machine.specs.Living.{AreTurns, IsTurn, Turn, after_loss_of, after_losses, all_posted}
+use Rattle.cue_machine.specs.Living.{AreTurns, IsTurn, Turn, after_loss_of, after_losses}
 use Rattle.cue_machine.specs.Posting.{Given, Posted, given_as, given_of}
 use Rattle.cue_relay.specs.declared.going.Going.{Going}
 use Rattle.cue_relay.specs.declared.hearing.News.{News}
@@ -21,20 +20,24 @@ use Rattle.cue_relay.specs.declared.relaying.Relay.{Relay}
 use Rattle.cue_relay.specs.declared.route.Opening.{Opening}
 use Rattle.cue_relay.specs.declared.route.Side.TheVariants.{Controller, Stage}
 use Rattle.cue_relay.specs.Rates.{admits}
-use Rattle.cue_relay.specs.Relayed.{Answer, Sending, goes_on, handed_from, handed_on, no_times, sent_by, times_then}
+use Rattle.cue_relay.specs.Relayed.{Sending, goes_on, handed_from, handed_on, no_times, sent_by, times_then}
 use Rattle.cue_relay.specs.Relayed.{way_and_message}
 use Rattle.cue_relay.specs.Relaying.{across}
-use Rattle.cue_relay.proofs.WayLemmas.{Goes, goes}
+use Rattle.cue_relay.proofs.WayLemmas.{goes}
 use Rattle.cue_relay_machine.specs.declared.books.Books.{Books}
+use Rattle.cue_relay_machine.specs.declared.copies.Waiting.{Waiting}
 use Rattle.cue_relay_machine.specs.declared.known.Known.{Known}
 use Rattle.cue_relay_machine.specs.declared.machine.RelayMachine.{RelayMachine}
 use Rattle.cue_relay_machine.specs.Books.{is_due, report, says_trouble}
-use Rattle.cue_relay_machine.specs.Lives.{IsNew, answer_as, answer_of, handed_in, relay_machine, sending_as, sendings}
-use Rattle.cue_relay_machine.specs.Places.{across_from, machine_address, opening_at, relay_address, side_at}
-use Rattle.cue_relay_machine.specs.Steps.{State, Steps, after_loss, came, file_given, gives, going_given, news_given}
+use Rattle.cue_relay_machine.specs.Copies.{after_wake, copies_given}
+use Rattle.cue_relay_machine.specs.Lives.{IsNew, relay_machine}
+use Rattle.cue_relay_machine.specs.Places.{across_from, opening_at, relay_address}
+use Rattle.cue_relay_machine.specs.Steps.{State, after_loss, came, file_given, gives, going_given, news_given}
 use Rattle.cue_relay_machine.specs.Steps.{report_given, silences_given, state_of, state_then, state_ticked, tick_given}
-use Rattle.cue_relay_machine.specs.Steps.{told_given, trouble_given}
+use Rattle.cue_relay_machine.specs.Steps.{state_woken, told_given, trouble_given, waiting_after, wake_given}
 use Rattle.cue_relay_machine.specs.Texts.{after_time_of, status_text}
+use Rattle.cue_relay_machine.specs.Turns.{all_at_once, answer_as, answer_of, at_once, at_wake, copies_at, handed_at}
+use Rattle.cue_relay_machine.specs.Turns.{handed_in, sending_as, sendings}
 use Rattle.cue_relay.specs.Hearing.{told_of_message, told_of_time}
 
 -- ---- what is no datagram
@@ -103,7 +106,7 @@ across_is p false e =
     let even : (p - 1) % 2 ≡ 0 = omega (arith, odd) in
     rw (half, even) refl
 
-admitted : (b : Bool) (o : Option Going) (g : Going) → cond b o None ≡ Some g → o ≡ Some g
+pub admitted : (b : Bool) (o : Option Going) (g : Going) → cond b o None ≡ Some g → o ≡ Some g
 admitted true o g e = e
 admitted false o g e = absurd (none-some g e)
 
@@ -131,72 +134,116 @@ going_sent r meters date known now at from bytes (Some g) e =
 
 -- ---- steps
 
-sent_of : (date : List ℕ) (s : State) (now : ℕ) (i : Input) (bytes : List ℕ)
-    → sendings (gives date s now i bytes) ≡ handed_on s.relay s.meters (answer_as now i bytes)
-sent_of date s now (input.Datagram at from) bytes =
-    going_sent s.relay s.meters date s.known now at from bytes (goes_on s.relay s.meters (came now at from bytes)) refl
-sent_of date s now (input.Refused at) bytes = refl
-sent_of date s now input.Wake bytes = none_if (is_due s.books now) (tick_given date s now) (tick_none date s now)
+-- of a datagram goes on what goes on of it
+sent_of : (date : List ℕ) (s : State) (now : ℕ) (i : Input) (bytes : List ℕ) (ps : List Posted)
+    → map given_of ps ≡ gives date s now i bytes
+    → sendings (map given_of (at_once i ps)) ≡ handed_on s.relay s.meters (answer_as now i bytes)
+sent_of date s now (input.Datagram at from) bytes ps e =
+    let going = goes_on s.relay s.meters (came now at from bytes) in
+    ap sendings e ∙ going_sent s.relay s.meters date s.known now at from bytes going refl
+sent_of date s now (input.Refused at) bytes ps e = ap sendings e
+sent_of date s now input.Wake bytes ps e = refl
 
-pub step_sent : (s : State) (h : Heard) (given : List Given) (s_then : State) → Steps s h given s_then
-    → sendings given ≡ handed_on s.relay s.meters (answer_as h.now h.input h.bytes)
-step_sent s h given s_then t = ap sendings t.gave ∙ sent_of t.date s h.now h.input h.bytes
+-- at a wake the copies are sent that are due, and nothing else
+abbrev pub copies_of : (i : Input) → List (Option Waiting) → ℕ → List Sending
+copies_of (input.Datagram at from) waiting now = []
+copies_of (input.Refused at) waiting now = []
+copies_of input.Wake waiting now = sendings (copies_given 0 waiting now)
 
--- the relay stays, and it is noted what went on
-abbrev Notes : State → Answer → State → Type 0
-Notes s a s_then = (s_then.relay ≡ s.relay) × (s_then.meters ≡ times_then s.relay s.meters a)
+wake_sent : (date : List ℕ) (s : State) (now : ℕ)
+    → sendings (wake_given date s now) ≡ sendings (copies_given 0 s.waiting now)
+wake_sent date s now =
+    let tick = cond (is_due s.books now) (tick_given date s now) [] in
+    sendings_both (copies_given 0 s.waiting now) tick
+    ∙ (ap (λ (ss : List Sending). sendings (copies_given 0 s.waiting now) ++ ss)
+    (none_if (is_due s.books now) (tick_given date s now) (tick_none date s now))
+    ∙ append-nil (sendings (copies_given 0 s.waiting now)))
 
-ticked_same : (s : State) (now : ℕ) (b : Bool)
-    → ((cond b (state_ticked s now) s).relay ≡ s.relay) × ((cond b (state_ticked s now) s).meters ≡ s.meters)
-ticked_same s now true = (refl, refl)
-ticked_same s now false = (refl, refl)
+copied_of : (date : List ℕ) (s : State) (now : ℕ) (i : Input) (bytes : List ℕ) (ps : List Posted)
+    → map given_of ps ≡ gives date s now i bytes
+    → sendings (map given_of (at_wake i ps)) ≡ copies_of i s.waiting now
+copied_of date s now (input.Datagram at from) bytes ps e = refl
+copied_of date s now (input.Refused at) bytes ps e = refl
+copied_of date s now input.Wake bytes ps e = ap sendings e ∙ wake_sent date s now
 
-notes_of : (s : State) (now : ℕ) (i : Input) (bytes : List ℕ)
-    → Notes s (answer_as now i bytes) (state_then s now i bytes)
-notes_of s now (input.Datagram at from) bytes = (refl, refl)
-notes_of s now (input.Refused at) bytes = (refl, refl)
-notes_of s now input.Wake bytes = ticked_same s now (is_due s.books now)
+-- what waits once this came
+abbrev pub waits_of : Relay → List (List ℕ) → ℕ → Input → List ℕ → List (Option Waiting) → List (Option Waiting)
+waits_of r meters now (input.Datagram at from) bytes waiting =
+    waiting_after waiting at now bytes (goes_on r meters (came now at from bytes))
+waits_of r meters now (input.Refused at) bytes waiting = waiting
+waits_of r meters now input.Wake bytes waiting = map (after_wake now) waiting
 
-step_notes : (s : State) (h : Heard) (given : List Given) (s_then : State) → Steps s h given s_then
-    → Notes s (answer_as h.now h.input h.bytes) s_then
-step_notes s h given s_then t =
-    subst (Notes s (answer_as h.now h.input h.bytes)) (sym t.left) (notes_of s h.now h.input h.bytes)
+-- the relay stays, it is noted what went on, and what waits
+pub record Notes (s : State) (now : ℕ) (i : Input) (bytes : List ℕ) (s_then : State) : Type 0 where
+  pub relay : s_then.relay ≡ s.relay
+  pub meters : s_then.meters ≡ times_then s.relay s.meters (answer_as now i bytes)
+  pub waiting : s_then.waiting ≡ waits_of s.relay s.meters now i bytes s.waiting
+
+woken_notes : (s : State) (now : ℕ) (bytes : List ℕ) (b : Bool)
+    → Notes s now input.Wake bytes (state_woken (cond b (state_ticked s now) s) now)
+woken_notes s now bytes true = record { relay = refl; meters = refl; waiting = refl }
+woken_notes s now bytes false = record { relay = refl; meters = refl; waiting = refl }
+
+notes_of : (s : State) (now : ℕ) (i : Input) (bytes : List ℕ) → Notes s now i bytes (state_then s now i bytes)
+notes_of s now (input.Datagram at from) bytes = record { relay = refl; meters = refl; waiting = refl }
+notes_of s now (input.Refused at) bytes = record { relay = refl; meters = refl; waiting = refl }
+notes_of s now input.Wake bytes = woken_notes s now bytes (is_due s.books now)
 
 -- ---- what was lost
 
-abbrev Keeps : RelayMachine → RelayMachine → Type 0
-Keeps m m_then = (m_then.relay ≡ m.relay) × (m_then.meters ≡ m.meters)
+pub record Keeps (m m_then : RelayMachine) : Type 0 where
+  pub relay : m_then.relay ≡ m.relay
+  pub meters : m_then.meters ≡ m.meters
+  pub waiting : m_then.waiting ≡ m.waiting
 
 keeps_one : (m : RelayMachine) (x : Output) (b : Bool) → Keeps m (cond b (after_loss m x) m)
-keeps_one m x true = (refl, refl)
-keeps_one m x false = (refl, refl)
+keeps_one m x true = record { relay = refl; meters = refl; waiting = refl }
+keeps_one m x false = record { relay = refl; meters = refl; waiting = refl }
 
 keeps_all : (ps : List Posted) (m : RelayMachine) → Keeps m (after_losses after_loss ps m)
-keeps_all [] m = (refl, refl)
+keeps_all [] m = record { relay = refl; meters = refl; waiting = refl }
 keeps_all (p ∷ ps) m =
     let one = keeps_one m p.given.output p.lost in
     let more = keeps_all ps (after_loss_of after_loss p m) in
-    (more.0 ∙ one.0, more.1 ∙ one.1)
+    record {
+      relay = more.relay ∙ one.relay;
+      meters = more.meters ∙ one.meters;
+      waiting = more.waiting ∙ one.waiting;
+    }
 
 -- ---- turns
 
--- a turn hands on what goes on of what came, and notes it
+-- a turn hands on what goes on of what came, sends the copies that are due, and notes it
 pub record Hands (m : RelayMachine) (t : Turn) (m_then : RelayMachine) : Type 0 where
-  pub handed : sendings (map given_of t.posted) ≡ handed_on m.relay m.meters.items (answer_of t)
+  pub handed : handed_at t ≡ handed_on m.relay m.meters.items (answer_of t)
+  pub copied : copies_at t ≡ copies_of t.heard.input m.waiting.items t.heard.now
   pub relay : m_then.relay ≡ m.relay
   pub noted : m_then.meters.items ≡ times_then m.relay m.meters.items (answer_of t)
+  pub waits : m_then.waiting.items
+      ≡ waits_of m.relay m.meters.items t.heard.now t.heard.input t.heard.bytes m.waiting.items
 
 pub turn_hands : (m : RelayMachine) (t : Turn) (m_then : RelayMachine) → IsTurn relay_machine m t m_then
     → Hands m t m_then
 turn_hands m t m_then h =
+    let s : State = state_of m in
     let step = h.stepped in
-    let notes = step_notes (state_of m) t.heard (map given_of t.posted) (state_of h.mid) step in
+    let notes : Notes s t.heard.now t.heard.input t.heard.bytes (state_of h.mid) =
+    subst (Notes s t.heard.now t.heard.input t.heard.bytes) (sym step.left)
+    (notes_of s t.heard.now t.heard.input t.heard.bytes) in
     let kept : Keeps h.mid m_then = subst (Keeps h.mid) (sym h.after) (keeps_all t.posted h.mid) in
     record {
-      handed = step_sent (state_of m) t.heard (map given_of t.posted) (state_of h.mid) step;
-      relay = kept.0 ∙ notes.0;
-      noted = ap (λ v. v.items) kept.1 ∙ notes.1;
+      handed = sent_of step.date s t.heard.now t.heard.input t.heard.bytes t.posted step.gave;
+      copied = copied_of step.date s t.heard.now t.heard.input t.heard.bytes t.posted step.gave;
+      relay = kept.relay ∙ notes.relay;
+      noted = ap (λ v. v.items) kept.meters ∙ notes.meters;
+      waits = ap (λ v. v.items) kept.waiting ∙ notes.waiting;
     }
+
+pub handed_more : (t : Turn) (ts : List Turn) → handed_in (t ∷ ts) ≡ handed_at t ++ handed_in ts
+handed_more t ts =
+    let ps = at_once t.heard.input t.posted in
+    ap sendings (map-append given_of ps (all_at_once ts))
+    ∙ sendings_both (map given_of ps) (map given_of (all_at_once ts))
 
 pub turns_hand : (m : RelayMachine) (ts : List Turn) (m_then : RelayMachine) → AreTurns relay_machine m ts m_then
     → handed_in ts ≡ handed_from m.relay m.meters.items (map answer_of ts)
@@ -207,10 +254,9 @@ turns_hand m (t ∷ ts) m_then h =
     turns_hand h.0 ts m_then h.2
     ∙ (ap (λ (r : Relay). handed_from r h.0.meters.items (map answer_of ts)) one.relay
     ∙ ap (λ (x : List (List ℕ)). handed_from m.relay x (map answer_of ts)) one.noted) in
-    ap sendings (map-append given_of t.posted (all_posted ts))
-    ∙ (sendings_both (map given_of t.posted) (map given_of (all_posted ts))
+    handed_more t ts
     ∙ (ap (λ (ss : List Sending). ss ++ handed_in ts) one.handed
-    ∙ ap (λ (ss : List Sending). handed_on m.relay m.meters.items (answer_of t) ++ ss) more))
+    ∙ ap (λ (ss : List Sending). handed_on m.relay m.meters.items (answer_of t) ++ ss) more)
 
 -- at first nothing went on yet
 pub life_hands : (m : RelayMachine) (ts : List Turn) (m_then : RelayMachine) → IsNew (state_of m)

@@ -1,5 +1,5 @@
 -- What a step gives.
-use Rattle.std.proofs.Common.{◌≡◌, ℕ, Bool, true, false, cond, List, [], ◌∷◌, ◌++◌, Option, Some, None, refl, sym, ap}
+use Rattle.std.proofs.Common.{◌≡◌, ℕ, Bool, true, false, cond, List, [], ◌++◌, Option, Some, None, refl, sym, ap}
 use Rattle.std.proofs.Common.{◌∙◌}
 use Rattle.std.proofs.Common.{◌≤◌, ◌<◌, length, append-nil}
 use Rattle.std.specs.Prelude.{get_or, is_some, slice_get}
@@ -15,20 +15,24 @@ use Rattle.cue_relay.specs.Hearing.{told_of_message}
 use Rattle.cue_relay.specs.Rates.{admits, meters_after}
 use Rattle.cue_relay.specs.Relayed.{goes_on, times_then, way_and_message}
 use Rattle.cue_relay_machine.specs.declared.books.Books.{Books}
+use Rattle.cue_relay_machine.specs.declared.copies.Waiting.{Waiting}
 use Rattle.cue_relay_machine.specs.declared.known.Known.{Known}
 use Rattle.cue_relay_machine.specs.Books.{one_dropped, one_passed}
+use Rattle.cue_relay_machine.specs.Copies.{taken_at}
 use Rattle.cue_relay_machine.specs.Places.{opening_at, relay_address}
 use Rattle.cue_relay_machine.specs.Steps.{State, Steps, books_after, came, going_given, known_after, news_given}
-use Rattle.cue_relay_machine.specs.Steps.{told_given}
+use Rattle.cue_relay_machine.specs.Steps.{told_given, waiting_after}
 use Rattle.cue_relay_machine.specs.Texts.{take_at}
 
 -- what is left of a datagram that would go on so, once it was asked whether it goes on now
-abbrev pub state_taken : State → ℕ → ℕ → (would goes : Option Going) → State
-state_taken s now at would goes = record {
+abbrev pub state_taken : State → ℕ → ℕ → List ℕ → (would goes : Option Going) → State
+state_taken s now at bytes would goes = record {
   relay = s.relay;
   file = s.file;
   meters = cond (is_some would) (meters_after s.meters (opening_at at) now) s.meters;
   known = known_after s.known at now goes;
+  waiting = waiting_after s.waiting at now bytes goes;
+  woken = false;
   books = books_after s.books goes;
 }
 
@@ -36,7 +40,7 @@ pub taken : (s : State) (now at : ℕ) (from : machine.Address) (bytes : List �
     (date : List ℕ) (given : List Given) (s_then : State)
     → way_and_message s.relay (opening_at at) (relay_address from) bytes ≡ would
     → admits s.meters (opening_at at) now ≡ b → given ≡ going_given date s.known at bytes (cond b would None)
-    → s_then ≡ state_taken s now at would (cond b would None)
+    → s_then ≡ state_taken s now at bytes would (cond b would None)
     → Steps s (heard_as now (input.Datagram at from) bytes) given s_then
 taken s now at from bytes would b date given s_then e f g h =
     let meters = s.meters in
@@ -54,9 +58,11 @@ taken s now at from bytes would b date given s_then e f g h =
         file = s.file;
         meters = m;
         known = known_after s.known at now (goes_on s.relay meters (came now at from bytes));
+        waiting = waiting_after s.waiting at now bytes (goes_on s.relay meters (came now at from bytes));
+        woken = false;
         books = books_after s.books (goes_on s.relay meters (came now at from bytes));
       }) times
-          ∙ ap (λ (o : Option Going). state_taken s now at would o) goes);
+          ∙ ap (λ (o : Option Going). state_taken s now at bytes would o) goes);
     }
 
 none_either : (b : Bool) → cond {A = Option Going} b None None ≡ None
@@ -66,21 +72,23 @@ none_either false = refl
 -- no way leads on: nothing is given, and it is dropped
 pub dropped : (s : State) (now at : ℕ) (from : machine.Address) (bytes : List ℕ) (given : List Given) (s_then : State)
     → way_and_message s.relay (opening_at at) (relay_address from) bytes ≡ None → given ≡ []
-    → s_then ≡ state_taken s now at None None
+    → s_then ≡ state_taken s now at bytes None None
     → Steps s (heard_as now (input.Datagram at from) bytes) given s_then
 dropped s now at from bytes given s_then e g h =
     let b : Bool = admits s.meters (opening_at at) now in
     taken s now at from bytes None b [] given s_then e refl
     (g ∙ sym (ap (going_given [] s.known at bytes) (none_either b)))
-    (h ∙ sym (ap (state_taken s now at None) (none_either b)))
+    (h ∙ sym (ap (state_taken s now at bytes None) (none_either b)))
 
 -- what is left of a datagram to which a way leads on, by whether it goes on now
-abbrev pub state_settled : State → ℕ → ℕ → Going → Bool → State
-state_settled s now at g goes = record {
+abbrev pub state_settled : State → ℕ → ℕ → List ℕ → Going → Bool → State
+state_settled s now at bytes g goes = record {
   relay = s.relay;
   file = s.file;
   meters = meters_after s.meters (opening_at at) now;
   known = cond goes (take_at s.known (opening_at at).route g.message now) s.known;
+  waiting = cond goes (taken_at s.waiting (opening_at at).route now g bytes) s.waiting;
+  woken = false;
   books = cond goes (one_passed s.books) (one_dropped s.books);
 }
 
@@ -89,7 +97,7 @@ pub settled : (s : State) (now at : ℕ) (from : machine.Address) (bytes : List 
     (date : List ℕ) (mid given : List Given) (s_then : State)
     → way_and_message s.relay (opening_at at) (relay_address from) bytes ≡ Some g
     → admits s.meters (opening_at at) now ≡ goes → mid ≡ going_given date s.known at bytes (Some g)
-    → given ≡ cond goes mid [] → s_then ≡ state_settled s now at g goes
+    → given ≡ cond goes mid [] → s_then ≡ state_settled s now at bytes g goes
     → Steps s (heard_as now (input.Datagram at from) bytes) given s_then
 settled s now at from bytes g true date mid given s_then e f k l h =
     taken s now at from bytes (Some g) true date given s_then e f (l ∙ k) h
@@ -97,46 +105,30 @@ settled s now at from bytes g false date mid given s_then e f k l h =
     taken s now at from bytes (Some g) false date given s_then e f l h
 
 -- a change of each part is a change of the whole
-pub settled_parts : (s s_then : State) (now at : ℕ) (g : Going) (goes : Bool) → s_then.relay ≡ s.relay
-    → s_then.file ≡ s.file → s_then.meters ≡ meters_after s.meters (opening_at at) now
+pub settled_parts : (s s_then : State) (now at : ℕ) (bytes : List ℕ) (g : Going) (goes : Bool)
+    → s_then.relay ≡ s.relay → s_then.file ≡ s.file
+    → s_then.meters ≡ meters_after s.meters (opening_at at) now
     → s_then.known ≡ cond goes (take_at s.known (opening_at at).route g.message now) s.known
-    → s_then.books ≡ cond goes (one_passed s.books) (one_dropped s.books) → s_then ≡ state_settled s now at g goes
-settled_parts s s_then now at g goes a b m k c =
-    ap (λ (r : Relay). record {
-      relay = r;
-      file = s_then.file;
-      meters = s_then.meters;
-      known = s_then.known;
-      books = s_then.books;
-    }) a
-    ∙ (ap (λ (f : Option (List ℕ)). record {
-      relay = s.relay;
-      file = f;
-      meters = s_then.meters;
-      known = s_then.known;
-      books = s_then.books;
-    }) b
-    ∙ (ap (λ (x : List (List ℕ)). record {
-      relay = s.relay;
-      file = s.file;
-      meters = x;
-      known = s_then.known;
-      books = s_then.books;
-    }) m
-    ∙ (ap (λ (x : List Known). record {
-      relay = s.relay;
-      file = s.file;
-      meters = meters_after s.meters (opening_at at) now;
+    → s_then.waiting ≡ cond goes (taken_at s.waiting (opening_at at).route now g bytes) s.waiting
+    → s_then.woken ≡ false → s_then.books ≡ cond goes (one_passed s.books) (one_dropped s.books)
+    → s_then ≡ state_settled s now at bytes g goes
+settled_parts s s_then now at bytes g goes a b m k w v c =
+    ap (λ (x : Relay). record s_then { relay = x }) a
+    ∙ (ap (λ (x : Option (List ℕ)). record s_then { relay = s.relay; file = x }) b
+    ∙ (ap (λ (x : List (List ℕ)). record s_then { relay = s.relay; file = s.file; meters = x }) m
+    ∙ (ap (λ (x : List Known). record (state_settled s now at bytes g goes) {
       known = x;
+      waiting = s_then.waiting;
+      woken = s_then.woken;
       books = s_then.books;
     }) k
-    ∙ ap (λ (x : Books). record {
-      relay = s.relay;
-      file = s.file;
-      meters = meters_after s.meters (opening_at at) now;
-      known = cond goes (take_at s.known (opening_at at).route g.message now) s.known;
-      books = x;
-    }) c)))
+    ∙ (ap (λ (x : List (Option Waiting)). record (state_settled s now at bytes g goes) {
+      waiting = x;
+      woken = s_then.woken;
+      books = s_then.books;
+    }) w
+    ∙ (ap (λ (x : Bool). record (state_settled s now at bytes g goes) { woken = x; books = s_then.books }) v
+    ∙ ap (λ (x : Books). record (state_settled s now at bytes g goes) { books = x }) c)))))
 
 -- ---- what is said of a device
 

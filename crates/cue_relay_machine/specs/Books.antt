@@ -66,6 +66,17 @@ one_lost b output.Replace = record {
 one_lost b output.Print = b
 one_lost b output.Say = b
 
+-- A copy of a GO is counted nowhere: what is sent at a wake is one.
+abbrev pub is_copy : (woken : Bool) → Output → Bool
+is_copy woken (output.Send by to) = woken
+is_copy woken output.Replace = false
+is_copy woken output.Print = false
+is_copy woken output.Say = false
+
+-- the books once this was lost that was given last
+abbrev pub books_lost : (woken : Bool) → Books → Output → Books
+books_lost woken b lost = if is_copy woken lost then b else one_lost b lost
+
 -- ---- time
 
 -- a tenth of a second has passed since the last tick, or the clock was put back before it

@@ -1,49 +1,55 @@
 -- What no life of a relay does, whatever comes and in whatever order.
-use Rattle.std.specs.Prelude.{◌≡◌, ◌<◌, ◌+◌, ◌^◌, ◌⊎◌, ◌&&◌, ◌==◌, ℕ, Bool, true, false, List, [], ◌∷◌, ◌++◌, length}
-use Rattle.std.specs.Prelude.{map, take}
+use Rattle.std.specs.Prelude.{◌≡◌, ◌≤◌, ◌<◌, ◌+◌, ◌^◌, ◌⊎◌, ◌&&◌, ◌==◌, nat_le, ℕ, Bool, true, false, List, []}
+use Rattle.std.specs.Prelude.{◌∷◌, ◌++◌, length, map, take, Some}
 use Rattle.std.specs.Prelude.{count_by, if◌then◌else◌, Contains}
+use Rattle.std.specs.List.{list_all}
 use Rattle.cue_machine.specs.declared.address.Address as machine
+use Rattle.cue_machine.specs.declared.ears.Input.TheVariants as input
 use Rattle.cue_machine.specs.declared.post.Output.{Output}
 use Rattle.cue_machine.specs.declared.post.Output.TheVariants as output
-use Rattle.cue_machine.specs.Living.{AreTurns, Turn, all_posted}
+use Rattle.cue_machine.specs.Living.{AreTurns, Turn}
 use Rattle.cue_machine.specs.Posting.{Posted, given_of}
 use Rattle.cue_relay.specs.declared.relaying.Counts.{Counts}
 use Rattle.cue_relay.specs.declared.relaying.Relay.{Relay}
 use Rattle.cue_relay.specs.declared.route.Route.{Route}
+use Rattle.cue_relay.specs.declared.status.Ordered.TheVariants.{Go}
 use Rattle.cue_relay.specs.declared.route.Side.TheVariants.{Controller, Stage}
 use Rattle.cue_relay.specs.Laws.{AtMostAHundred, CameBy, is_controller}
 use Rattle.cue_relay.specs.Messages.{IsAnswerOf, IsOrderTo, IsReply}
 use Rattle.cue_relay.specs.Relayed.{Sending, all_handed_on, goes_on, is_datagram, times_then}
 use Rattle.cue_relay_machine.specs.declared.machine.RelayMachine.{RelayMachine}
-use Rattle.cue_relay_machine.specs.Lives.{IsNew, answer_of, handed_in, relay_machine, sendings}
+use Rattle.cue_relay_machine.specs.declared.copies.TheConstants.{FIRST_COPY, LAST_COPY, SECOND_COPY}
+use Rattle.cue_relay_machine.specs.Copied.{OnlyCopies, copied, is_quiet, order_at}
+use Rattle.cue_relay_machine.specs.Lives.{IsNew, relay_machine}
 use Rattle.cue_relay_machine.specs.Steps.{came, state_of}
+use Rattle.cue_relay_machine.specs.Turns.{all_at_once, answer_of, copies_at, handed_at, handed_in, sendings, sent_in}
 
 -- a relay had these turns, the first of its life and those after it
 pub record HadTurns (m : RelayMachine) (ts : List Turn) (m_then : RelayMachine) : Type 0 where
   pub new : IsNew (state_of m)
   pub turns : AreTurns relay_machine m ts m_then
 
--- what was handed on is what the definition of the relay makes of what came
+-- what was handed on as it came is what the definition of the relay makes of what came
 abbrev pub HandsOn : Type 0
 HandsOn =
     (m : RelayMachine) (ts : List Turn) (m_then : RelayMachine) → HadTurns m ts m_then
     → handed_in ts ≡ all_handed_on m.relay (map answer_of ts)
 
--- what is handed to the controller is an answer of the device of its route, and came from the device's own address, at
+-- what is sent to the controller is an answer of the device of its route, and came from the device's own address, at
 -- the stage's side of that route
 abbrev pub HandsOnlyAnswers : Type 0
 HandsOnlyAnswers =
     (m : RelayMachine) (ts : List Turn) (m_then : RelayMachine) (s : Sending) → HadTurns m ts m_then
-    → Contains (handed_in ts) s → s.way.out.side ≡ Controller
+    → Contains (sent_in ts) s → s.way.out.side ≡ Controller
     → (route : Route) × IsAnswerOf route.device s.bytes
     × CameBy m.relay (map answer_of ts) s (record { route = s.way.out.route; side = Stage }) route.address route
 
--- what is handed to the stage is a reply, or an order to the device of its route; it came from the controller, and is
--- for the address of that device
+-- what is sent to the stage, a copy too, is a reply, or an order to the device of its route; it came from the
+-- controller, and is for the address of that device
 abbrev pub HandsOnlyOrders : Type 0
 HandsOnlyOrders =
     (m : RelayMachine) (ts : List Turn) (m_then : RelayMachine) (s : Sending) → HadTurns m ts m_then
-    → Contains (handed_in ts) s → s.way.out.side ≡ Stage
+    → Contains (sent_in ts) s → s.way.out.side ≡ Stage
     → (route : Route) × (s.way.to ≡ route.address) × (IsReply s.bytes ⊎ IsOrderTo route.device s.bytes)
     × CameBy m.relay (map answer_of ts) s (record { route = s.way.out.route; side = Controller }) m.relay.controller
     route
@@ -74,6 +80,44 @@ CutIsTheSame size =
     → (goes_on r meters (came now at from (take size bytes)) ≡ goes_on r meters (came now at from bytes))
     × (times_then r meters (came now at from (take size bytes)) ≡ times_then r meters (came now at from bytes))
 
+-- ---- copies
+
+-- what is sent at a wake is a copy of a GO that came a fiftieth of a second ago or less, and after which no other order
+-- came to that device
+abbrev pub CopiesOnlyGoes : Type 0
+CopiesOnlyGoes =
+    (m : RelayMachine) (ts : List Turn) (m_then : RelayMachine) → HadTurns m ts m_then → OnlyCopies m.relay [] ts
+
+-- after an order that came, and until the next one to that device, at most two copies are sent to it
+abbrev pub SaysThrice : Type 0
+SaysThrice =
+    (m : RelayMachine) (before : List Turn) (t : Turn) (since : List Turn) (m_then : RelayMachine) (route : ℕ)
+    → HadTurns m (before ++ t ∷ since) m_then → list_all (is_quiet m.relay route) since ≡ true
+    → copied route since ≤ 2
+
+-- the time from a GO to its copy, once so many were said
+abbrev pub copy_pause : ℕ → ℕ
+copy_pause said = if said == 0 then FIRST_COPY else SECOND_COPY
+
+-- these turns were between the two moments
+abbrev pub is_between : (first last : ℕ) → Turn → Bool
+is_between first last t = nat_le first t.heard.now && nat_le t.heard.now last
+
+-- A GO is said again: if it was handed on, and no other order came to its device since, a wake at which its next copy
+-- is due, and not late, sends it, unless the clock was put back in between.
+abbrev pub SaysAgain : Type 0
+SaysAgain =
+    (m : RelayMachine) (before : List Turn) (first : Turn) (since : List Turn) (t : Turn) (m_then : RelayMachine)
+    (s : Sending)
+    → HadTurns m (before ++ first ∷ (since ++ t ∷ [])) m_then → Contains (handed_at first) s
+    → order_at m.relay s.way.out.route (answer_of first) ≡ Some Go
+    → list_all (is_quiet m.relay s.way.out.route) since ≡ true
+    → list_all (is_between first.heard.now (first.heard.now + LAST_COPY)) (since ++ t ∷ []) ≡ true
+    → copied s.way.out.route since < 2
+    → t.heard.input ≡ input.Wake
+    → first.heard.now + copy_pause (copied s.way.out.route since) ≤ t.heard.now
+    → Contains (copies_at t) s
+
 -- ---- counts
 
 abbrev pub is_send : Output → Bool
@@ -89,17 +133,18 @@ is_lost_sending p = is_send p.given.output && p.lost
 abbrev pub total : Counts → ℕ
 total c = c.passed + c.lost + c.dropped
 
--- what was added to the counts while so many datagrams came and this was posted: what was lost, what was handed on, and
--- each datagram once
+-- what was added to the counts while so many datagrams came and this was posted for them: what was lost, what was
+-- handed on, and each datagram once
 abbrev pub Adds : (c d : Counts) → (came : ℕ) → List Posted → Type 0
 Adds c d came ps =
     (d.lost ≡ c.lost + count_by is_lost_sending ps)
     × (d.passed + d.lost ≡ c.passed + c.lost + length (sendings (map given_of ps)))
     × (total d ≡ total c + came)
 
--- the counts of a life are those of what came and was posted: a life has fewer turns than there are numbers
+-- the counts of a life are those of what came and was posted for it: copies, which are sent at wakes, are counted
+-- nowhere. A life has fewer turns than there are numbers
 abbrev pub CountsAll : Type 0
 CountsAll =
     (m : RelayMachine) (ts : List Turn) (m_then : RelayMachine) → HadTurns m ts m_then → length ts < 2 ^ 64
     → Adds (record { passed = 0; lost = 0; dropped = 0 }) m_then.books.counts
-    (count_by is_datagram (map answer_of ts)) (all_posted ts)
+    (count_by is_datagram (map answer_of ts)) (all_at_once ts)

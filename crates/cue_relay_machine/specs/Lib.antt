@@ -1,6 +1,9 @@
 pub mod Books
+pub mod Copied
+pub mod Copies
 pub mod Laws
 pub mod Lives
 pub mod Places
 pub mod Steps
 pub mod Texts
+pub mod Turns

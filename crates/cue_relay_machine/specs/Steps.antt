@@ -1,6 +1,6 @@
 -- What a step of the relay gives, and what it knows after it.
 use Rattle.std.specs.Prelude.{◌≡◌, ℕ, ◌++◌, Bool, true, false, List, [], ◌∷◌, map, Option, Some, None, slice_get}
-use Rattle.std.specs.Prelude.{if◌then◌else◌}
+use Rattle.std.specs.Prelude.{if◌then◌else◌, length, replicate}
 use Rattle.std.specs.Borrow.{Bor}
 use Rattle.std.specs.Option.{option_map}
 use Rattle.cue_machine.specs.declared.ears.Input.{Input}
@@ -17,20 +17,25 @@ use Rattle.cue_relay.specs.declared.relaying.Relay.{Relay}
 use Rattle.cue_relay.specs.Hearing.{told_of_message, told_of_time}
 use Rattle.cue_relay.specs.Relayed.{Answer, comes, goes_on, no_times, times_then}
 use Rattle.cue_relay_machine.specs.declared.books.Books.{Books}
+use Rattle.cue_relay_machine.specs.declared.copies.Waiting.{Waiting}
 use Rattle.cue_relay_machine.specs.declared.known.Known.{Known}
 use Rattle.cue_relay_machine.specs.declared.machine.RelayMachine.{RelayMachine}
-use Rattle.cue_relay_machine.specs.Books.{is_due, new_books, next_tick, one_dropped, one_lost, one_passed, report}
+use Rattle.cue_relay_machine.specs.Books.{books_lost, is_due, new_books, next_tick, one_dropped, one_passed, report}
 use Rattle.cue_relay_machine.specs.Books.{says_trouble, ticked}
+use Rattle.cue_relay_machine.specs.Copies.{after_wake, copies_given, earliest, taken_at}
 use Rattle.cue_relay_machine.specs.Places.{across_from, machine_address, opening_at, relay_address}
 use Rattle.cue_relay_machine.specs.Texts.{after_time_of, device_line, dropped_line, status_text, take_at}
 use Rattle.cue_relay_machine.specs.Texts.{trouble_line, unknown}
 
--- What a relay knows: the routes, the file of its status, when the last datagrams went on, the devices, and its books.
+-- What a relay knows: the routes, the file of its status, when the last datagrams went on, the devices, the GO of each
+-- route that is to be said again, whether what it gave last it gave at a wake, and its books.
 pub record State : Type 0 where
   pub relay : Relay
   pub file : Option (List ℕ)
   pub meters : List (List ℕ)
   pub known : List Known
+  pub waiting : List (Option Waiting)
+  pub woken : Bool
   pub books : Books
 
 -- the path of a file, if there is one
@@ -43,6 +48,8 @@ state_of m = record {
   file = path_of m.file;
   meters = m.meters.items;
   known = m.known.items;
+  waiting = m.waiting.items;
+  woken = m.woken;
   books = m.books;
 }
 
@@ -53,6 +60,8 @@ begun relay file now = record {
   file = file;
   meters = no_times relay.routes.now;
   known = map unknown relay.routes.now;
+  waiting = replicate (length relay.routes.now) None;
+  woken = false;
   books = new_books now;
 }
 
@@ -96,13 +105,20 @@ abbrev pub books_after : Books → Option Going → Books
 books_after b None = one_dropped b
 books_after b (Some g) = one_passed b
 
+-- and a GO is to be said again
+abbrev pub waiting_after : List (Option Waiting) → ℕ → ℕ → List ℕ → Option Going → List (Option Waiting)
+waiting_after waiting at now bytes None = waiting
+waiting_after waiting at now bytes (Some g) = taken_at waiting (opening_at at).route now g bytes
+
 -- what the relay knows once this came, which goes on so
-abbrev pub state_after : State → Answer → ℕ → ℕ → Option Going → State
-state_after s a now at going = record {
+abbrev pub state_after : State → Answer → ℕ → ℕ → List ℕ → Option Going → State
+state_after s a now at bytes going = record {
   relay = s.relay;
   file = s.file;
   meters = times_then s.relay s.meters a;
   known = known_after s.known at now going;
+  waiting = waiting_after s.waiting at now bytes going;
+  woken = false;
   books = books_after s.books going;
 }
 
@@ -131,13 +147,17 @@ tick_given date s now =
 
 -- what the relay knows after a tick
 abbrev pub state_ticked : State → ℕ → State
-state_ticked s now = record {
-  relay = s.relay;
-  file = s.file;
-  meters = s.meters;
-  known = map (after_time_of now) s.known;
-  books = ticked s.books now;
-}
+state_ticked s now = record s { known = map (after_time_of now) s.known; books = ticked s.books now }
+
+-- ---- a wake
+
+-- what the relay knows once copies were said
+abbrev pub state_woken : State → ℕ → State
+state_woken s now = record s { waiting = map (after_wake now) s.waiting; woken = true }
+
+-- the copies that are due, and the tick, if that is due
+abbrev pub wake_given : List ℕ → State → ℕ → List Given
+wake_given date s now = copies_given 0 s.waiting now ++ (if is_due s.books now then tick_given date s now else [])
 
 -- ---- steps
 
@@ -146,18 +166,18 @@ abbrev pub gives : List ℕ → State → ℕ → Input → List ℕ → List Gi
 gives date s now (input.Datagram at from) bytes =
     going_given date s.known at bytes (goes_on s.relay s.meters (came now at from bytes))
 gives date s now (input.Refused at) bytes = []
-gives date s now input.Wake bytes = if is_due s.books now then tick_given date s now else []
+gives date s now input.Wake bytes = wake_given date s now
 
 -- what the relay knows after it
 abbrev pub state_then : State → ℕ → Input → List ℕ → State
 state_then s now (input.Datagram at from) bytes =
-    state_after s (came now at from bytes) now at (goes_on s.relay s.meters (came now at from bytes))
+    state_after s (came now at from bytes) now at bytes (goes_on s.relay s.meters (came now at from bytes))
 state_then s now (input.Refused at) bytes = s
-state_then s now input.Wake bytes = if is_due s.books now then state_ticked s now else s
+state_then s now input.Wake bytes = state_woken (if is_due s.books now then state_ticked s now else s) now
 
 -- The law: what goes on of a datagram leaves once, with its own bytes; it is noted of its device, and counted. At a
--- tick it is said who falls silent and how many were dropped, and the status is written. Nothing else is given. Before
--- each line stands a date.
+-- wake the copies of a GO are said that are due. At a tick it is said who falls silent and how many were dropped, and
+-- the status is written. Nothing else is given. Before each line stands a date.
 pub record Steps (s : State) (h : Heard) (given : List Given) (s_then : State) : Type 0 where
   pub date : List ℕ
   pub gave : given ≡ gives date s h.now h.input h.bytes
@@ -170,18 +190,11 @@ steps m h given m_then = Steps (state_of m) h given (state_of m_then)
 
 -- of what was lost the books alone are changed
 abbrev pub after_loss : RelayMachine → Output → RelayMachine
-after_loss m lost = record {
-  alloc = m.alloc;
-  relay = m.relay;
-  file = m.file;
-  meters = m.meters;
-  known = m.known;
-  books = one_lost m.books lost;
-}
+after_loss m lost = record m { books = books_lost m.woken m.books lost }
 
--- the next tenth of a second
+-- the next tenth of a second, or the next copy that is due
 abbrev pub wakes : RelayMachine → Option ℕ
-wakes m = Some (next_tick m.books)
+wakes m = Some (earliest (next_tick m.books) m.waiting.items)
 
 -- a relay is never over
 abbrev pub is_over : RelayMachine → Bool

@@ -1,7 +1,8 @@
 //! What a relay keeps of numbers and moments.
 ghost use Rattle.std.specs.Prelude.{◌≡◌};
-ghost use Rattle.cue_relay_machine.specs.Books.{counted, has_more_dropped, is_due, is_report_due, new_books, next_tick};
-ghost use Rattle.cue_relay_machine.specs.Books.{one_dropped, one_lost, one_passed, report, reports};
+ghost use Rattle.cue_relay_machine.specs.Books.{books_lost, counted, has_more_dropped, is_copy, is_due, is_report_due};
+ghost use Rattle.cue_relay_machine.specs.Books.{new_books, next_tick, one_dropped, one_lost, one_passed, report};
+ghost use Rattle.cue_relay_machine.specs.Books.{reports};
 ghost use Rattle.cue_relay_machine.specs.Books.{says_trouble, ticked};
 
 use cue_machine::Output;
@@ -36,6 +37,16 @@ fn counted(n: u64) -> u64
     if n < u64::MAX { n + 1 } else { n }
 }
 
+// Whether what was lost is a copy of a GO: what is sent at a wake is one.
+fn is_copy(woken: bool, output: Output) -> bool
+    ensures { result ≡ is_copy woken output }
+{
+    match output {
+        Output::Send { .. } => woken,
+        Output::Replace | Output::Print | Output::Say => false,
+    }
+}
+
 impl Books {
     /// Nothing came yet, and the first tick is a tenth of a second from now.
     pub fn begun(now: u64) -> Books
@@ -67,8 +78,19 @@ impl Books {
         self
     }
 
-    /// This was lost: a datagram that was handed on, or the status.
-    pub fn one_lost(mut self, output: Output) -> Books
+    /// This was lost, which was given last: a copy of a GO is counted nowhere.
+    pub fn lost(self, woken: bool, output: Output) -> Books
+        ensures { result ≡ books_lost woken self output }
+    {
+        if is_copy(woken, output) {
+            self
+        } else {
+            self.one_lost(output)
+        }
+    }
+
+    // This was lost: a datagram that was handed on, or the status.
+    fn one_lost(mut self, output: Output) -> Books
         ensures { result ≡ one_lost self output }
     {
         match output {

@@ -1,13 +1,14 @@
 //! What every life of a relay comes to, whatever comes. Each contract is a theorem; there is nothing to run.
 ghost use Rattle.std.specs.Prelude.{◌≡◌, ◌<◌};
 ghost use Rattle.cue_osc.specs.declared.limits.TheConstants.{MAX_LEN};
-ghost use Rattle.cue_relay_machine.specs.Laws.{CountsAll, CutIsTheSame, HandsAtARate, HandsOn, HandsOnlyAnswers};
-ghost use Rattle.cue_relay_machine.specs.Laws.{HandsOnlyOrders};
+ghost use Rattle.cue_relay_machine.specs.Laws.{CopiesOnlyGoes, CountsAll, CutIsTheSame, HandsAtARate, HandsOn};
+ghost use Rattle.cue_relay_machine.specs.Laws.{HandsOnlyAnswers, HandsOnlyOrders, SaysAgain, SaysThrice};
 ghost use Rattle.cue_relay_machine.specs.declared.books.TheConstants.{DROPPED_PAUSE, TICK};
+ghost use Rattle.cue_relay_machine.specs.declared.copies.TheConstants.{FIRST_COPY, LAST_COPY, SECOND_COPY};
 ghost use Rattle.cue_relay_machine.specs.declared.living.TheConstants.{MAX_RECEIVED};
 
-/// Of all that came, what was handed on is what the definition of the relay makes of it: each datagram that goes on
-/// once, in order, with its own bytes, and nothing else.
+/// Of all that came, what was handed on as it came is what the definition of the relay makes of it: each datagram that
+/// goes on once, in order, with its own bytes. What else is sent is copies of a GO (`copies_only_goes`).
 pub fn hands_on()
     ensures { HandsOn }
 {}
@@ -18,10 +19,29 @@ pub fn hands_only_answers()
     ensures { HandsOnlyAnswers }
 {}
 
-/// What is handed to the stage came from the controller, and is a reply or an order to the device at whose local port
-/// it came. It is for that device's address.
+/// What is handed to the stage, a copy too, came from the controller, and is a reply or an order to the device at whose
+/// local port it came. It is for that device's address.
 pub fn hands_only_orders()
     ensures { HandsOnlyOrders }
+{}
+
+/// What is sent at a wake is a copy of a GO: the same bytes, to the same device, by the same socket, within 20
+/// milliseconds. Since that GO came no other order did to that device, so none of a later attempt is overtaken; and
+/// fewer than two copies of it were sent.
+pub fn copies_only_goes()
+    ensures { CopiesOnlyGoes }
+{}
+
+/// A GO is said three times at most for each time that it came: between it and the next order to its device at most two
+/// copies are sent.
+pub fn says_thrice()
+    ensures { SaysThrice }
+{}
+
+/// A GO is said again: at a wake at which its next copy is due, 7 milliseconds after it came and then 14, and not later
+/// than 20, if no other order to its device came since.
+pub fn says_again()
+    ensures { SaysAgain }
 {}
 
 /// Of what is handed to the controller from one device, each comes a second after the hundredth before it or later,
@@ -36,16 +56,20 @@ pub fn cut_is_the_same()
 {}
 
 /// The counts of a relay are those of its whole life: what was handed on and left, what was handed on and lost, and
-/// what was dropped. Each datagram is counted once.
+/// what was dropped. Each datagram that came is counted once, and a copy nowhere.
 pub fn counts_all()
     ensures { CountsAll }
 {}
 
 /// A status goes out each 100 milliseconds, and at most each 10,000 it is said how many were dropped. At most 4,100
-/// bytes of a datagram are read: more than the longest one has, so that a longer one is seen to be so.
+/// bytes of a datagram are read: more than the longest one has, so that a longer one is seen to be so. The copies of a
+/// GO are due 7 and 14 milliseconds after it, and are not said any more after 20.
 pub fn limits()
     ensures tick { TICK ≡ 100 }
     ensures dropped { DROPPED_PAUSE ≡ 10000 }
     ensures buffer { MAX_RECEIVED ≡ 4100 }
     ensures longer { MAX_LEN < MAX_RECEIVED }
+    ensures first_copy { FIRST_COPY ≡ 7 }
+    ensures second_copy { SECOND_COPY ≡ 14 }
+    ensures last_copy { LAST_COPY ≡ 20 }
 {}

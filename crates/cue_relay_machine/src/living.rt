@@ -32,8 +32,9 @@ fn relay_in<E: Ears, P: Post>(
     live(machine, ears, post, room, turns)
 }
 
-/// Relays so many datagrams and wakes at most, from the first on: of all that comes, what is handed on is what the
-/// definition of the relay makes of it. What it works with it takes before its first turn.
+/// Relays so many datagrams and wakes at most, from the first on: of all that comes, what is handed on as it comes is
+/// what the definition of the relay makes of it, and what else is sent is copies of a GO. What it works with it takes
+/// before its first turn.
 pub fn run<E: Ears, P: Post>(
     alloc: Global,
     machine: &mut RelayMachine<'_>,

@@ -1,10 +1,11 @@
 //! The relay as a machine.
-ghost use Rattle.std.specs.Prelude.{◌≡◌, ◌++◌, ◌∷◌, [], Some, IfOk, OnErr, OnOk, if◌then◌else◌, map, slice_get};
+ghost use Rattle.std.specs.Prelude.{◌≡◌, ◌++◌, ◌∷◌, [], ℕ, List, Some, IfOk, OnErr, OnOk, if◌then◌else◌, map};
+ghost use Rattle.std.specs.Prelude.{slice_get};
 ghost use Rattle.cue_machine.specs.Hearing.{heard_as};
 ghost use Rattle.cue_machine.specs.Posting.{given_as};
 ghost use Rattle.cue_machine.specs.declared.ears.Input.TheVariants as input;
 ghost use Rattle.cue_machine.specs.declared.post.Output.TheVariants as output;
-ghost use Rattle.cue_relay_machine.specs.Books.{one_dropped, one_passed};
+ghost use Rattle.cue_relay_machine.specs.Books.{is_due, one_dropped, one_passed};
 ghost use Rattle.cue_relay_machine.specs.Lives.{IsNew};
 ghost use Rattle.cue_relay_machine.specs.Places.{across_from, machine_address};
 ghost use Rattle.cue_relay_machine.specs.Steps as step;
@@ -12,6 +13,7 @@ ghost use Rattle.cue_relay_machine.specs.Steps.{state_of};
 ghost use Rattle.cue_relay_machine.specs.Texts.{after_time_of, take_at};
 
 use crate::books::Books;
+use crate::copies::{Waiting, earliest, pass_copies, push_copies, settle_waiting};
 use crate::known::{Known, all_known, take_at};
 use crate::lines::{date_of, push_news, push_report};
 use crate::places::{across_from, machine_address, opening_at, relay_address};
@@ -28,6 +30,10 @@ pub struct RelayMachine<'a> {
     file: Option<&'a str>,
     meters: Vec<Meter>,
     known: Vec<Known>,
+    // The GO of each route that is to be said again.
+    waiting: Vec<Option<Waiting>>,
+    // Whether what it gave last it gave at a wake.
+    woken: bool,
     books: Books,
 }
 
@@ -162,12 +168,15 @@ impl<'a> RelayMachine<'a> {
     {
         let meters = meters(alloc, relay.routes.len())?;
         let known = all_known(alloc, relay.routes)?;
+        let waiting = vec![in alloc; None; relay.routes.len()]?;
         Ok(RelayMachine {
             alloc,
             relay,
             file,
             meters,
             known,
+            waiting,
+            woken: false,
             books: Books::begun(now),
         })
     }
@@ -190,6 +199,7 @@ impl<'a> RelayMachine<'a> {
         let from = relay_address(from);
         let Some(going) = way_and_message(self.relay, opening, from, bytes) else {
             self.books = self.books.one_dropped();
+            self.woken = false;
             return Ok(());
         };
         let date = date_for(self.alloc, &self.known, opening.route, going.message, now)?;
@@ -205,15 +215,16 @@ impl<'a> RelayMachine<'a> {
         )?;
         let goes = admit(&mut self.meters, opening, now);
         settle_known(&mut self.known, opening.route, going.message, now, goes);
+        settle_waiting(&mut self.waiting, opening.route, now, going, bytes, goes);
         settle_out(out, goes);
+        self.woken = false;
         self.books = settled_books(self.books, goes);
         Ok(())
     }
 
     // A tick, with the date of its lines.
     fn tick(&mut self, now: u64, date: &str, out: &mut Outputs) -> Result<(), AllocError>
-        requires { out.old ≡ [] }
-        ensures given { OnOk result (out.new ≡ step.tick_given date.now (state_of self.old) now) }
+        ensures given { OnOk result (out.new ≡ out.old ++ step.tick_given date.now (state_of self.old) now) }
         ensures after { OnOk result (state_of self.new ≡ step.state_ticked (state_of self.old) now) }
         ensures err { OnErr result (self.new ≡ self.old) }
     {
@@ -225,11 +236,12 @@ impl<'a> RelayMachine<'a> {
         Ok(())
     }
 
-    // It was woken.
-    fn pass(&mut self, now: u64, out: &mut Outputs) -> Result<(), AllocError>
-        requires { out.old ≡ [] }
-        ensures passed { OnOk result (step.Steps (state_of self.old) (heard_as now input.Wake []) out.new
-            (state_of self.new)) }
+    // A tick, if it is due.
+    fn tick_if_due(&mut self, now: u64, out: &mut Outputs) -> Result<(), AllocError>
+        ensures given { OnOk result ((date : List ℕ) × (out.new ≡ out.old
+            ++ (if is_due self.old.books now then step.tick_given date (state_of self.old) now else []))) }
+        ensures after { OnOk result (state_of self.new
+            ≡ if is_due self.old.books now then step.state_ticked (state_of self.old) now else state_of self.old) }
         ensures err { OnErr result (self.new ≡ self.old) }
     {
         if !self.books.is_due(now) {
@@ -237,6 +249,20 @@ impl<'a> RelayMachine<'a> {
         }
         let date = date_of(self.alloc, now)?;
         self.tick(now, date.as_str(), out)
+    }
+
+    // It was woken.
+    fn pass(&mut self, now: u64, out: &mut Outputs) -> Result<(), AllocError>
+        requires { out.old ≡ [] }
+        ensures passed { OnOk result (step.Steps (state_of self.old) (heard_as now input.Wake []) out.new
+            (state_of self.new)) }
+        ensures err { OnErr result (self.new ≡ self.old) }
+    {
+        push_copies(out, &self.waiting, now)?;
+        self.tick_if_due(now, out)?;
+        pass_copies(&mut self.waiting, now);
+        self.woken = true;
+        Ok(())
     }
 }
 
@@ -264,11 +290,11 @@ impl<'a> Machine for RelayMachine<'a> {
     }
 
     fn lose(&mut self, output: Output) {
-        self.books = self.books.one_lost(output);
+        self.books = self.books.lost(self.woken, output);
     }
 
     fn wakes(&self) -> Option<u64> {
-        Some(self.books.next_tick())
+        Some(earliest(self.books.next_tick(), &self.waiting))
     }
 
     fn is_over(&self) -> bool {

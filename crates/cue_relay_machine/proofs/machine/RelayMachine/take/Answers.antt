@@ -24,6 +24,7 @@ returns-clause-taken c =
     settled s c.args.now c.args.at c.args.from c.args.bytes.now c.in-Some.going c.admit-goes.result
     c.as_str.result.now c.push_going.new.out _ _
     (rw (c.opening_at-opening.ensures, c.relay_address-from.ensures) at raw) admitted (search rules) (search rules)
-    (settled_parts s _ c.args.now c.args.at c.in-Some.going c.admit-goes.result refl refl
+    (settled_parts s _ c.args.now c.args.at c.args.bytes.now c.in-Some.going c.admit-goes.result refl refl
     (rw c.opening_at-opening.ensures at c.admit-goes.ensures.after)
-    (rw c.opening_at-opening.ensures at c.settle_known.ensures) c.settled_books-self.ensures)
+    (rw c.opening_at-opening.ensures at c.settle_known.ensures)
+    (rw c.opening_at-opening.ensures at c.settle_waiting.ensures) refl c.settled_books-self.ensures)

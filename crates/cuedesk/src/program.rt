@@ -131,9 +131,7 @@ fn carry_out<R: Files<File = File> + Net + Clock + RandomSource + Eprint + Alloc
             let curtain = if *is_up { Curtain::Up } else { Curtain::Down };
             mark_curtain(rt, file.as_str(), curtain, writer)
         }
-        Line::Ask { order, port, name } => {
-            carry_order(rt, *order, &[], controller_port(*port, None), *name, writer)
-        }
+        Line::Ask { order, port, name } => carry_order(rt, order, &[], *port, name, writer),
         Line::StandBy {
             cue,
             others,
@@ -141,14 +139,7 @@ fn carry_out<R: Files<File = File> + Net + Clock + RandomSource + Eprint + Alloc
             name,
         } => {
             let order = DeskCommand::OfCue(CueVerb::Standby, *cue);
-            carry_order(
-                rt,
-                order,
-                others,
-                controller_port(*port, None),
-                *name,
-                writer,
-            )
+            carry_order(rt, &order, others, *port, name, writer)
         }
     }
 }

@@ -1,135 +1,96 @@
 //! The commands of an evening: one message each, as it was typed.
+ghost use Rattle.std.specs.Prelude.{◌≡◌, ◌++◌, ◌∷◌, [], IfErr, IfOk, IfSome, List, None, OnOk, Option, is_some};
+ghost use Rattle.std.specs.Fmt.{with_newline};
+ghost use Rattle.std.specs.Io.KnownBytes.{Appends};
+ghost use Rattle.cue_desk.specs.declared.ending.Ending.TheVariants.{Unwritten};
+ghost use Rattle.cue_machine.specs.Growing.{Grew};
+ghost use Rattle.cue_order_words.specs.Told.{ending_of};
+ghost use Rattle.cuedesk.specs.Orders as orders;
+
 use cue_ask_machine::{AskEnd, Question, ask, home};
 use cue_asker::AskerName;
-use cue_desk::answered::{Answered, answer_in, ending_of};
 use cue_desk::asking::AskFault;
 use cue_desk::ending::Ending;
 use cue_desk::orders::DeskCommand;
-use cue_desk::ports::PORT;
-use cue_desk::replying::{Replied, Status};
+use cue_desk::ports::controller_port;
+use cue_desk::replying::Replied;
 use cue_edge_run::{NetEars, SocketPost, connected};
-use cue_exchange::Outcome;
-use cue_operator::CueVerb;
-use cue_saying::{print, say};
+use cue_order_words::{Answer, Told, WayBack, WordsBack, is_move};
+use cue_saying::say;
 use cue_show::CueNo;
-use cue_words::{code_words, outcome_words};
 use mio::net::UdpSocket;
-use std::alloc::{AllocError, Global};
-use std::fmt::Write as _;
+use std::fmt::Display;
 use std::io::{self, Eprint, ErrorKind, Write};
 use std::net::Net;
 use std::time::Clock;
 
-// How the attempt with this outcome ended; there is none before the first has ended.
-fn ended_words(outcome: i32) -> &'static str {
-    match u8::try_from(outcome).ok().and_then(Outcome::of_number) {
-        Some(outcome) => outcome_words(outcome),
-        None => "none has ended",
+// ---- what is told
+
+// Prints a line, and sees that all of it left.
+fn put<W: Write, D: Display + Drop>(writer: &mut W, what: D) -> Result<(), Ending>
+    ensures left { OnOk result (IfSome (with_newline (D.output what)) (Appends (W.contents writer.old)
+        (W.contents writer.new))) }
+    ensures fault { IfErr result (λ ending. ending ≡ Unwritten) }
+{
+    match writer.writeln(what) {
+        Ok(()) => match writer.flush() {
+            Ok(()) => Ok(()),
+            Err(_) => Err(Ending::Unwritten),
+        },
+        Err(_) => Err(Ending::Unwritten),
     }
 }
 
-// Adds what a status says, a line for each fact.
-fn push_status(text: &mut String, status: Status) -> Result<(), AllocError> {
-    write!(
-        text,
-        "last attempt {}\nlive {}\nplace ",
-        status.last, status.live
-    )?;
-    match status.place {
-        Some(cue) => write!(text, "{}\n", cue.text().escape_ascii())?,
-        None => text.push_str("-\n")?,
-    }
-    let words = ended_words(status.outcome);
-    write!(text, "ended {}, {words}\n", status.ended)
-}
-
-// What a status says, a line for each fact.
-fn status_text(alloc: Global, status: Status) -> Result<String, AllocError> {
-    let mut text = String::new(alloc);
-    push_status(&mut text, status)?;
-    Ok(text)
-}
-
-// Says what became of a command, and answers whether it was refused.
-fn tell_answer<R: Eprint, W: Write>(
-    rt: &R,
-    answered: Answered,
-    writer: &mut W,
-) -> Result<(), Ending> {
-    match answered {
-        Answered::Made => print(writer, "made\n")?,
-        Answered::Known => print(writer, "known: it was so already\n")?,
-        Answered::Refused(code) => say(
-            rt,
-            format_args!("refused, code {code}: {}", code_words(code)),
-        ),
-    }
-    match ending_of(answered) {
-        None => Ok(()),
-        Some(ending) => Err(ending),
-    }
-}
-
-// What stands after the words that nobody replied: of what was asked nothing is known but this.
-fn open_words(order: &DeskCommand) -> &'static str {
-    match order {
-        DeskCommand::Status => "is serve running, and not stopped?",
-        DeskCommand::OfCue(_, _) | DeskCommand::Release(_) | DeskCommand::RemoveDevice(_) => {
-            "it was carried out whole, or not at all, or will be when serve goes on: look at the board"
+// Tells what became of a command: what is done on the output, and all else on standard error.
+fn tell<R: Eprint, W: Write>(rt: &R, answer: &Answer<'_>, writer: &mut W) -> Result<(), Ending>
+    ensures { orders.TellsBy (ending_of answer.now.told.now) (orders.answer_line answer.now) result
+        (W.contents writer.old) (W.contents writer.new) }
+{
+    match answer.told.ending() {
+        None => put(writer, format_args!("{answer}")),
+        Some(ending) => {
+            say(rt, format_args!("{answer}"));
+            Err(ending)
         }
     }
 }
 
-// Says that nobody replied at this port within a second, and these words.
-fn say_silent<R: Eprint>(rt: &R, words: &str, port: u16) -> Ending {
-    say(
-        rt,
-        format_args!("nobody replied at 127.0.0.1:{port} within a second: {words}"),
-    );
-    Ending::Silent
-}
-
-// Says that nobody listens at this port.
-fn say_alone<R: Eprint>(rt: &R, port: u16) -> Ending {
-    say(
-        rt,
-        format_args!("nobody listens at 127.0.0.1:{port}: nothing was carried out"),
-    );
-    Ending::Silent
-}
-
-// Says that only some of several cues stand by.
-fn say_partly<R: Eprint>(rt: &R, code: i32) -> Ending {
-    say(
-        rt,
-        format_args!(
-            "NOT ALL of them stand by, code {code}: {}: look at the board",
-            code_words(code)
-        ),
-    );
-    Ending::Refused
-}
-
-// Says in words what was replied.
-fn tell<R: Eprint + AllocGlobal, W: Write>(
-    rt: &R,
-    replied: Replied,
-    writer: &mut W,
-) -> Result<(), Ending> {
-    match replied {
-        Replied::Status(status) => print(writer, status_text(rt.alloc(), status)?.as_str()),
-        Replied::Reply {
-            made: 1,
-            refused: 1,
-            code,
-            ..
-        } => Err(say_partly(rt, code)),
-        Replied::Reply { .. } => match answer_in(replied) {
-            Some(answered) => tell_answer(rt, answered, writer),
-            None => Err(Ending::Silent),
-        },
+// Tells how to go back, if a move was made.
+fn tell_back<W: Write>(way: &Option<WayBack>, port: u16, writer: &mut W) -> Result<(), Ending>
+    ensures told { OnOk result (Appends (W.contents writer.old) (W.contents writer.new)
+        (orders.back_line way.now port)) }
+    ensures fault { IfErr result (λ ending. ending ≡ Unwritten) }
+{
+    match way {
+        Some(way) => {
+            let words = WordsBack { way, port };
+            put(writer, format_args!("{words}"))
+        }
+        None => Ok(()),
     }
 }
+
+// Tells how a question ended; after a move, how to go back.
+fn tell_end<R: Eprint, W: Write>(
+    rt: &R,
+    question: &Question<'_>,
+    end: &AskEnd,
+    before: Option<WayBack>,
+    writer: &mut W,
+) -> Result<(), Ending>
+    ensures { orders.Tells question.now end.now before result (W.contents writer.old) (W.contents writer.new) }
+{
+    let told = Told::of(end);
+    let answer = Answer {
+        told: &told,
+        order: &question.order,
+        port: question.port,
+    };
+    tell(rt, &answer, writer)?;
+    tell_back(&WayBack::of(&told, before), question.port, writer)
+}
+
+// ---- how it is asked
 
 // Why a message was lost.
 fn why_lost(fault: Option<io::Error>) -> io::Error {
@@ -141,7 +102,9 @@ fn why_lost(fault: Option<io::Error>) -> io::Error {
 
 // How a question ended; else why its message could not be sent. If nothing could be heard any more once it was sent, it
 // is not known what became of it, as if nobody had replied.
-fn end_by(ended: Result<Option<AskEnd>, AskFault>, fault: Option<io::Error>) -> io::Result<AskEnd> {
+fn end_by(ended: Result<Option<AskEnd>, AskFault>, fault: Option<io::Error>) -> io::Result<AskEnd>
+    ensures { IfOk result (λ end. orders.IsEndOf ended end) }
+{
     match ended {
         Ok(Some(AskEnd::Lost)) => Err(why_lost(fault)),
         Ok(Some(end)) => Ok(end),
@@ -155,7 +118,9 @@ fn ask_from<R: Net + Clock + AllocGlobal>(
     rt: &R,
     question: &Question<'_>,
     sockets: &mut [UdpSocket],
-) -> io::Result<AskEnd> {
+) -> io::Result<AskEnd>
+    ensures { IfOk result (λ end. orders.EndedSo question.now end) }
+{
     let mut ears = NetEars::steady(rt, rt, sockets)?;
     let mut post = SocketPost::new(ears.sockets());
     let ended = ask(rt.alloc(), question, &mut ears, &mut post);
@@ -166,119 +131,134 @@ fn ask_from<R: Net + Clock + AllocGlobal>(
 }
 
 // Asks it from a socket of its own: how it ended; else why there is no socket, or nothing was sent.
-fn ask_once<R: Net + Clock + AllocGlobal>(rt: &R, question: &Question<'_>) -> io::Result<AskEnd> {
+fn ask_once<R: Net + Clock + AllocGlobal>(rt: &R, question: &Question<'_>) -> io::Result<AskEnd>
+    ensures { IfOk result (λ end. orders.EndedSo question.now end) }
+{
     let mut sockets = connected(rt, home(question.port))?;
     let end = ask_from(rt, question, &mut sockets);
     drop(sockets);
     end
 }
 
-// Asks this, with who asks, if there is a name.
-fn ask_as<R: Net + Clock + AllocGlobal>(
-    rt: &R,
-    order: DeskCommand,
-    others: &[CueNo],
-    port: u16,
-    name: Option<&[u8]>,
-) -> io::Result<AskEnd> {
+// Where a question is asked.
+trait Asker {
+    // All that was asked so far, in order; None for one that does not show it.
+    ghost asked: { Self → Option (List orders.Asking) };
+
+    // Asks it, once: how it ended; else why there is no socket, or nothing was sent.
+    fn ask(&mut self, question: &Question<'_>) -> io::Result<AskEnd>
+        ensures ended { IfOk result (λ end. orders.EndedSo question.now end) }
+        ensures asked { Grew (asked self.old) (orders.asking_of question.now ∷ []) (asked self.new) };
+}
+
+// Asks from a socket for each question. It shows nothing of what was asked.
+#[derive(Drop)]
+struct NetAsker<'a, R> {
+    rt: &'a R,
+}
+
+impl<R: Net + Clock + AllocGlobal> Asker for NetAsker<'_, R> {
+    ghost asked = { λ _. None };
+
+    fn ask(&mut self, question: &Question<'_>) -> io::Result<AskEnd> {
+        ask_once(self.rt, question)
+    }
+}
+
+// The place, if this is the status.
+fn back_in(end: &AskEnd) -> Option<WayBack>
+    ensures { result ≡ orders.back_in end.now }
+{
+    match end {
+        AskEnd::Replied(Replied::Status(status)) => Some(WayBack::to(&status.place)),
+        AskEnd::Replied(Replied::Reply { .. }) => None,
+        AskEnd::Nobody | AskEnd::Silent | AskEnd::Lost => None,
+    }
+}
+
+// The text of a name, if there is one.
+fn text_of(name: &Option<AskerName>) -> Option<&[u8]>
+    ensures { is_some result ≡ is_some name.now }
+{
+    match name {
+        Some(name) => Some(name.text()),
+        None => None,
+    }
+}
+
+// How to go back to the place that the controller at this port says; none if it does not say it.
+fn back_at<A: Asker>(asker: &mut A, port: u16) -> Option<WayBack>
+    ensures said { IfSome result (λ way. orders.IsBackAt port way) }
+    ensures asked { Grew (A.asked asker.old) (orders.status_at port ∷ []) (A.asked asker.new) }
+{
     let question = Question {
-        order,
-        others,
-        name,
+        order: DeskCommand::Status,
+        others: &[],
+        name: None,
         port,
     };
-    ask_once(rt, &question)
-}
-
-// The place before a move, as the controller says it; none if nothing moves, or nobody says it.
-fn place_before<R: Net + Clock + AllocGlobal>(
-    rt: &R,
-    order: DeskCommand,
-    port: u16,
-) -> Option<Option<CueNo>> {
-    let DeskCommand::OfCue(CueVerb::Goto, _) = order else {
-        return None;
-    };
-    match ask_as(rt, DeskCommand::Status, &[], port, None) {
-        Ok(AskEnd::Replied(Replied::Status(status))) => Some(status.place),
-        _ => None,
+    match asker.ask(&question) {
+        Ok(end) => back_in(&end),
+        Err(_) => None,
     }
 }
 
-// How to go back from a move that was made.
-fn way_back(alloc: Global, place: Option<CueNo>, port: u16) -> Result<String, AllocError> {
-    let Some(cue) = place else {
-        return String::from_str(
-            alloc,
-            "before, no cue was the place: no command goes back to that\n",
-        );
-    };
-    let cue = cue.text().escape_ascii();
-    if port == PORT {
-        format!(in alloc; "moved from cue {cue}; back: cuedesk goto {cue}\n")
+// How to go back to the place before a move; none if nothing moves, or nobody says the place.
+#[tactic(auto, using(cue_machine::proofs::LivingLemmas::grew_none))]
+fn back_before<A: Asker>(asker: &mut A, question: &Question<'_>) -> Option<WayBack>
+    ensures said { orders.IsBackBefore question.now result }
+    ensures asked { Grew (A.asked asker.old) (orders.first_for question.now) (A.asked asker.new) }
+{
+    if is_move(&question.order) {
+        back_at(asker, question.port)
     } else {
-        format!(in alloc; "moved from cue {cue}; back: cuedesk goto {cue} --port {port}\n")
+        None
     }
 }
 
-// Says how to go back, if a move was made.
-fn tell_way_back<W: Write>(
-    alloc: Global,
-    replied: Replied,
-    before: Option<Option<CueNo>>,
-    port: u16,
-    writer: &mut W,
-) -> Result<(), Ending> {
-    match (before, replied) {
-        (Some(place), Replied::Reply { made: 1, .. }) => {
-            print(writer, way_back(alloc, place, port)?.as_str())
-        }
-        _ => Ok(()),
-    }
-}
-
-// Says in words how an order ended; these stand after the words that nobody replied. After a move from this place it
-// says how to go back.
-fn tell_end<R: Eprint + AllocGlobal, W: Write>(
+// Asks one thing of the controller, once, and says in words what it replied, within a second. After a move it says how
+// to go back: so the place is asked before it, and nothing else is asked.
+#[tactic(auto, using(cue_machine::proofs::LivingLemmas::grew_both))]
+fn carry_question<R: Eprint, A: Asker, W: Write>(
     rt: &R,
-    end: &AskEnd,
-    words: &str,
-    before: Option<Option<CueNo>>,
-    port: u16,
+    asker: &mut A,
+    question: &Question<'_>,
     writer: &mut W,
-) -> Result<(), Ending> {
-    match end {
-        AskEnd::Replied(replied) => {
-            tell(rt, *replied, writer)?;
-            tell_way_back(rt.alloc(), *replied, before, port, writer)
-        }
-        AskEnd::Nobody => Err(say_alone(rt, port)),
-        AskEnd::Silent => Err(say_silent(rt, words, port)),
-        AskEnd::Lost => Err(say_silent(rt, words, port)),
-    }
-}
-
-/// Asks one thing of the controller, once, and says in words what it replied, within a second; a cue is stood by with
-/// these others. Who asks is said first, if there is a name. After a move it says how to go back.
-pub fn carry_order<R: Net + Clock + Eprint + AllocGlobal, W: Write>(
-    rt: &R,
-    order: DeskCommand,
-    others: &[CueNo],
-    port: u16,
-    name: Option<AskerName>,
-    writer: &mut W,
-) -> Result<(), Ending> {
-    let words = open_words(&order);
-    let before = place_before(rt, order, port);
-    let ended = match &name {
-        Some(name) => ask_as(rt, order, others, port, Some(name.text())),
-        None => ask_as(rt, order, others, port, None),
-    };
-    match ended {
-        Ok(end) => tell_end(rt, &end, words, before, port, writer),
+) -> Result<(), Ending>
+    ensures carried { orders.Carried question.now result (W.contents writer.old) (W.contents writer.new) }
+    ensures asked { Grew (A.asked asker.old) (orders.first_for question.now ++ orders.asking_of question.now ∷ [])
+        (A.asked asker.new) }
+{
+    let before = back_before(asker, question);
+    match asker.ask(question) {
+        Ok(end) => tell_end(rt, question, &end, before, writer),
         Err(why) => {
             say(rt, format_args!("no socket: {why}"));
             Err(Ending::Failed)
         }
     }
+}
+
+/// Asks what was typed of the controller, once, and says in words what it replied, within a second; a cue is stood by
+/// with these others. Who asks is said first, if there is a name. After a move it says how to go back.
+pub fn carry_order<R: Net + Clock + Eprint + AllocGlobal, W: Write>(
+    rt: &R,
+    order: &DeskCommand,
+    others: &[CueNo],
+    port: Option<u16>,
+    name: &Option<AskerName>,
+    writer: &mut W,
+) -> Result<(), Ending>
+    ensures { orders.CarriedTyped order.now others.now port name.now result (W.contents writer.old)
+        (W.contents writer.new) }
+{
+    let order = *order;
+    let question = Question {
+        order,
+        others,
+        name: text_of(name),
+        port: controller_port(port, None),
+    };
+    let mut asker = NetAsker { rt };
+    carry_question(rt, &mut asker, &question, writer)
 }

@@ -1,5 +1,5 @@
 //! The log: what it writes at each look.
-ghost use Rattle.std.specs.Prelude.{◌≡◌, Some};
+ghost use Rattle.std.specs.Prelude.{◌≡◌, None, Some};
 
 use crate::course::Course;
 use crate::orders::order_line;
@@ -204,6 +204,8 @@ fn cut(events: &[Event], count: usize) -> (&[Event], &[Event]) {
 }
 
 impl<'a, R: Clock + Eprint, W: Wire + Drop> Watch<LoggedWire<W>> for EveningLog<'a, R> {
+    ghost seen = { λ _. None };
+
     fn look(
         &mut self,
         state: &State,

@@ -19,6 +19,10 @@ formed_text = codes "formed" ++ (10 ∷ [])
 abbrev pub turns_text : ℕ → ℕ → List ℕ
 turns_text turns unsent = codes "turns " ++ (decimal turns ++ (codes " unsent " ++ (decimal unsent ++ (10 ∷ []))))
 
+-- the most bytes of a datagram that a show reads: more than the longest one has, so that a longer one is seen to be so
+abbrev pub most_read : ℕ
+most_read = 4100
+
 -- A run of at most so many inputs is reported.
 pub record IsRunTold (most : ℕ) (old new : Option (List ℕ)) : Type 0 where
   pub turns : ℕ

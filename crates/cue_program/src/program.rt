@@ -12,6 +12,8 @@ ghost use Rattle.std.specs.Prelude.{
   IfOk,
   IfSome,
   IsErrOf,
+  None,
+  OnErr,
   OnOk,
 };
 ghost use Rattle.std.specs.Io.KnownBytes.{Appends};
@@ -20,14 +22,19 @@ ghost use Rattle.cue_core.specs.State.{empty_state};
 ghost use Rattle.cue_command_line.specs.Lines.{AsksForText, IsHelp, IsNoCommand, cuectl_app};
 ghost use Rattle.cue_keeper.specs.Observed.{is_broken};
 ghost use Rattle.cue_engine.specs.Observed.{keeper_of};
+ghost use Rattle.cue_engine.specs.Taking.{IsOffered};
 ghost use Rattle.cue_program.specs.Endings.{run_fault, unbound_fault};
 ghost use Rattle.cue_program.specs.Performing.{
   EndsSo,
   HasEnded,
   IsRunTold,
   NamesScript,
+  most_read,
   turns_text,
 };
+ghost use Rattle.cue_run.specs.Running.{Ran};
+ghost use Rattle.cue_run.specs.Through.{RunsThrough};
+ghost use Rattle.cue_run.specs.declared.groups.TheConstants.{MAX_TOGETHER};
 ghost use Rattle.cue_script.specs.Script.{HasRun};
 ghost use Rattle.cue_command_line.specs.declared.words.LineFault.TheVariants.{Memory, Usage};
 ghost use Rattle.cue_program.specs.declared.program.fault.ProgramFault.TheVariants.{Io, Net};
@@ -87,7 +94,13 @@ fn serve_beside<'a, R: Clock, D: Disk, V: Watch<LoggedWire<UdpWire<'a>>>>(
     turns: u64,
     watch: &mut V,
 ) -> io::Result<Ended>
-    ensures { IfOk result (λ ended. ended.turns ≤ turns) }
+    ensures ran { IfOk result (λ ended.
+        Ran most_read MAX_TOGETHER turns ended engine.old engine.new None None None None) }
+    ensures through { IfOk result (λ ended.
+        RunsThrough most_read ended.turns engine.old engine.new None None None None) }
+    ensures dropped { OnOk result (IsOffered [] engine.new) }
+    ensures at_most { IfOk result (λ ended. ended.turns ≤ turns) }
+    ensures err { OnErr result (engine.new ≡ engine.old) }
 {
     let mut source = UdpSource::new(rt, UdpReceiver::new(socket)?, port)?;
     let mut wire = LoggedWire::new(alloc, UdpWire::new(socket));
@@ -95,8 +108,9 @@ fn serve_beside<'a, R: Clock, D: Disk, V: Watch<LoggedWire<UdpWire<'a>>>>(
     Ok(run_grouped(alloc, engine, &mut source, &mut wire, turns, most, watch))
 }
 
-/// Runs the show over a socket that is bound to this port, for so many turns at most, and keeps the log of the evening
-/// on standard error. It fails if the socket cannot be read, or there is no memory to begin.
+/// Runs the show over a socket that is bound to this port, for so many turns at most, in groups, and keeps the log of
+/// the evening on standard error. It fails if the socket cannot be read, or there is no memory to begin; then nothing
+/// was taken.
 pub fn serve_on<'a, R: Clock + Eprint, D: Disk>(
     rt: &'a R,
     alloc: Global,
@@ -105,7 +119,17 @@ pub fn serve_on<'a, R: Clock + Eprint, D: Disk>(
     port: u16,
     turns: u64,
 ) -> io::Result<Ended>
-    ensures { IfOk result (λ ended. ended.turns ≤ turns) }
+    // The state is what the definition of a run makes of the inputs that were taken, no more than so many of them; it
+    // ended for its reason, and the engine works on unless a device failed. What a socket gave and sent is in no clause.
+    ensures ran { IfOk result (λ ended.
+        Ran most_read MAX_TOGETHER turns ended engine.old engine.new None None None None) }
+    // It goes from hand-out to commit and from commit to hand-out; the promise holds at each moment of its disks.
+    ensures through { IfOk result (λ ended.
+        RunsThrough most_read ended.turns engine.old engine.new None None None None) }
+    // Nothing is left of what was offered before it, nor of what it offered.
+    ensures dropped { OnOk result (IsOffered [] engine.new) }
+    // If it fails the engine is as it was.
+    ensures err { OnErr result (engine.new ≡ engine.old) }
 {
     let mut log = EveningLog::new(rt, alloc);
     serve_beside(rt, alloc, engine, socket, port, turns, &mut log)

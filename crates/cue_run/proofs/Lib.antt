@@ -4,4 +4,5 @@ mod OfferLemmas
 mod RoundLemmas
 mod RunLemmas
 mod ThroughLemmas
+mod WatchLemmas
 mod WorkLemmas

@@ -1,10 +1,12 @@
 //! The run of a show: it takes what a source gives, and hands out what that owes. What waits together is committed
 //! together, and then handed out input by input; a run of single inputs is one of groups of one.
 ghost use Rattle.std.specs.Prelude.{◌≡◌, ◌≤◌, [], length, max, vec_capacity, IfOk};
+ghost use Rattle.cue_engine.specs.Observed.{state_of};
 ghost use Rattle.cue_engine.specs.Taking.{IsOffered};
 ghost use Rattle.cue_run.specs.Grouping.{fault_of};
 ghost use Rattle.cue_run.specs.Running.{Ran};
 ghost use Rattle.cue_run.specs.Through.{RunsThrough};
+ghost use Rattle.cue_run.specs.Watching.{Showed};
 ghost use Rattle.cue_run.specs.declared.turns.TheConstants.{MAX_RECEIVED};
 
 mod handing;
@@ -59,6 +61,8 @@ fn run_rounds<D: Disk, S: Source, W: Wire, V: Watch<W>>(
     ensures through { RunsThrough (length buffer.old) result.turns engine.old engine.new
         (S.left source.old) (S.left source.new) (W.told wire.old) (W.told wire.new) }
     ensures dropped { IsOffered [] engine.new }
+    ensures showed { Showed result.turns (V.seen watch.old) (state_of engine.old) (state_of engine.new)
+        (V.seen watch.new) }
 {
     engine.withdraw();
     let mut unsent = engine.hand_out(wire);
@@ -110,6 +114,9 @@ pub fn run_grouped<D: Disk, S: Source, W: Wire, V: Watch<W>>(
         (S.left source.old) (S.left source.new) (W.told wire.old) (W.told wire.new) }
     // Nothing is left of what was offered before it, nor of what it offered.
     ensures dropped { IsOffered [] engine.new }
+    // A watch that reports was shown the batch of each input that was taken, in order, and no other events.
+    ensures showed { Showed result.turns (V.seen watch.old) (state_of engine.old) (state_of engine.new)
+        (V.seen watch.new) }
 {
     match places(alloc, most) {
         Ok((mut buffer, mut ends)) => {
@@ -148,6 +155,9 @@ pub fn run_watched<D: Disk, S: Source, W: Wire, V: Watch<W>>(
     // disks were sound, the promise holds at each moment of them.
     ensures through { RunsThrough MAX_RECEIVED result.turns engine.old engine.new
         (S.left source.old) (S.left source.new) (W.told wire.old) (W.told wire.new) }
+    // A watch that reports was shown the batch of each input that was taken, in order, and no other events.
+    ensures showed { Showed result.turns (V.seen watch.old) (state_of engine.old) (state_of engine.new)
+        (V.seen watch.new) }
 {
     run_grouped(alloc, engine, source, wire, turns, 1, watch)
 }

@@ -133,7 +133,9 @@ impl<'a, R: Files + Clock + Eprint, V: Drop> PlaceWatch<'a, R, V> {
     }
 
     // Looks at the place, and says it if the files are there no more.
-    fn look_at_place(&mut self) {
+    fn look_at_place(&mut self)
+        ensures { self.new.beside ≡ self.old.beside }
+    {
         let is_gone = self.place.first.is_elsewhere(self.rt)
             || self.place.second.is_elsewhere(self.rt);
         if is_gone && !self.is_gone {
@@ -147,7 +149,9 @@ impl<'a, R: Files + Clock + Eprint, V: Drop> PlaceWatch<'a, R, V> {
     }
 
     // The same, at most once a second.
-    fn look_in_time(&mut self) {
+    fn look_in_time(&mut self)
+        ensures { self.new.beside ≡ self.old.beside }
+    {
         let now = self.rt.monotonic().unwrap_or(Duration::ZERO).as_millis();
         if is_due(self.last, now) {
             self.last = Some(now);
@@ -157,6 +161,8 @@ impl<'a, R: Files + Clock + Eprint, V: Drop> PlaceWatch<'a, R, V> {
 }
 
 impl<'a, R: Files + Clock + Eprint, W: Wire, V: Watch<W> + Drop> Watch<W> for PlaceWatch<'a, R, V> {
+    ghost seen = { λ w. V.seen w.beside };
+
     fn look(&mut self, state: &State, batch: &[Event], account: Option<&Account>, wire: &mut W) {
         self.beside.look(state, batch, account, wire);
         self.look_in_time();

@@ -1,8 +1,9 @@
 // One round of a run by groups: one group, from its first input to its last datagram.
 ghost use Rattle.std.specs.Prelude.{◌≡◌, ◌≤◌, ◌⊎◌, [], length, vec_capacity, Some};
 ghost use Rattle.cue_engine.specs.Taking.{IsOffered};
-ghost use Rattle.cue_engine.specs.Observed.{queue_of};
+ghost use Rattle.cue_engine.specs.Observed.{offered_of, queue_of, state_of};
 ghost use Rattle.cue_run.specs.Grouping.{HasRound, LostGroup, TookGroup, stop_of};
+ghost use Rattle.cue_run.specs.Watching.{ShowedEach};
 
 use super::handing::take_group;
 use super::offering::{Stop, offer_group};
@@ -53,11 +54,15 @@ fn close_round<D: Disk, W: Wire, V: Watch<W>>(
     ends: &[usize],
     cut: Option<RunFault>,
 ) -> Round
-    requires { queue_of engine.old ≡ [] }
+    requires emptied { queue_of engine.old ≡ [] }
+    requires some { 1 ≤ length ends.now }
+    requires each { length ends.now ≡ length (offered_of engine.old) }
     ensures closed { TookGroup (length ends.now) cut result engine.old engine.new (W.told wire.old) (W.told wire.new)
         ⊎ LostGroup result engine.old engine.new (W.told wire.old) (W.told wire.new) }
     ensures emptied { queue_of engine.new ≡ [] }
     ensures dropped { IsOffered [] engine.new }
+    ensures showed { ShowedEach result.turns (V.seen watch.old) (state_of engine.old) (state_of engine.new)
+        (V.seen watch.new) }
 {
     match take_group(engine, wire, watch, ends) {
         Ok(unsent) => Round {
@@ -88,6 +93,8 @@ pub(crate) fn take_round<D: Disk, S: Source, W: Wire, V: Watch<W>>(
     ensures emptied { queue_of engine.new ≡ [] }
     ensures dropped { IsOffered [] engine.new }
     ensures capacity { vec_capacity ends.new ≡ vec_capacity ends.old }
+    ensures showed { ShowedEach result.turns (V.seen watch.old) (state_of engine.old) (state_of engine.new)
+        (V.seen watch.new) }
 {
     engine.rest();
     // Called for its clause that an engine that works stands for its state.

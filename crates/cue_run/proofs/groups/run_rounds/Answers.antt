@@ -1,5 +1,7 @@
-use Rattle.std.proofs.Common.{◌≡◌, ◌∙◌, None, refl, inl, arith}
+use Rattle.std.proofs.Common.{◌≡◌, ◌∙◌, None, ap, refl, inl, arith}
+use Rattle.cue_keeper.specs.Observed as kept
 use Rattle.cue_run.proofs.RoundLemmas.{begun, ended, through_ended, round_more, round_last, through_last}
+use Rattle.cue_run.proofs.WatchLemmas.{showed_first, showed_more}
 use Rattle.cue_run.proofs.WorkLemmas.{begins}
 use Rattle.cue_run.proofs.groups.run_rounds.Goals as goal
 
@@ -16,6 +18,7 @@ loop-taken-init g c =
       refl,
       refl,
       omega arith,
+      showed_first (ap kept.state_of same) c.look.ensures.seen,
     )
 
 pub loop-taken-preserved : goal.loop-taken-preserved
@@ -28,6 +31,7 @@ loop-taken-preserved g c =
       c.take_round-round.auto.buffer ∙ now.1,
       r.capacity ∙ now.2,
       omega (arith, one.at_most, c.min-room.ensures, c.loop-taken-test.true),
+      showed_more now.4 r.showed,
     )
 
 pub returns-in-Some-clause-ran : goal.returns-in-Some-clause-ran
@@ -64,3 +68,12 @@ returns-clause-through g c =
 
 pub returns-clause-dropped : goal.returns-clause-dropped
 returns-clause-dropped g c = c.loop-taken.invariant.0.dropped
+
+pub returns-in-Some-clause-showed : goal.returns-in-Some-clause-showed
+returns-in-Some-clause-showed g c = showed_more c.loop-taken.invariant.4 c.take_round-round.ensures.showed
+
+pub returns-clause-showed : goal.returns-clause-showed
+returns-clause-showed g c =
+    let now = c.loop-taken.invariant in
+    let all : c.loop-taken.taken ≡ c.args.turns = omega (arith, c.loop-taken-test.false, now.3) in
+    rw all at now.4

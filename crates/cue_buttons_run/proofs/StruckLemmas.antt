@@ -1,6 +1,7 @@
 -- For what a panel lets the desk hear a press.
-use Rattle.std.proofs.Common.{◌≡◌, ◌∙◌, ◌⊎◌, refl, sym, subst, inl, inr, ℕ, Bool, true, false, Option, None, Some}
+use Rattle.std.proofs.Common.{◌≡◌, ◌∙◌, ◌⊎◌, refl, sym, ap, subst, inl, inr, ℕ, Bool, true, false, Option, None, Some}
 use Rattle.std.proofs.Common.{List, [], ◌∷◌}
+use Rattle.std.proofs.lemmas.Option.{none-some}
 use Rattle.cue_desk_run.specs.Working.{HearsFor, OnlyLooks, Stays}
 use Rattle.cue_desk_run.proofs.WorkLemmas.{for_if, for_looks, for_none, for_stays, for_then}
 use Rattle.cue_midi.specs.declared.heard.Heard.{Heard}
@@ -24,37 +25,48 @@ use Rattle.cue_view.specs.declared.view.View.{View}
 use Rattle.cue_buttons_run.specs.Pressing.{AtMost, Chooses, HasHeard, HearsAll, IsOfPress, IsStruck, IsStruckAt}
 use Rattle.cue_buttons_run.specs.Pressing.{IsStruckIn, Means, MeansBy, MeansSpoken, OnlyStruck, Presses, PressesIf}
 use Rattle.cue_buttons_run.specs.Pressing.{StillHears, Strikes, StrikesBy, StrikesSpoken, StruckBy, Takes}
+use Rattle.cue_buttons_run.specs.declared.pressing.Outcome.{Outcome}
 use Rattle.cue_buttons_run.specs.declared.panel.Setting.{Setting}
 use Rattle.cue_buttons_run.proofs.ReasonLemmas.{for_each}
 
 chooses-for : (reason : ℕ → Button → Type 0) (p : Press) (o : Option ℕ) → p.choose ≡ o → (is_heard : Bool)
-    (old new : Station) (v v_then : View) → ((view : ℕ) (b : Button) → IsOfPress p b → reason view b)
+    (old new : Station) (v v_then : View) → ((view : ℕ) (b : Button) → IsOfPress p v view b → reason view b)
     → Chooses is_heard o old new v v_then → HearsFor reason old new
 chooses-for reason p None e is_heard old new v v_then why c = for_stays reason old new v v_then c.1
 chooses-for reason p (Some q) e is_heard old new v v_then why c =
     for_if reason is_heard v.number (button.Choose q) old new v v_then
-    (why v.number (button.Choose q) (inr (q, e, refl))) c
+    (why v.number (button.Choose q) (inr (q, e, refl, refl))) c
 
-presses-if-for : (reason : ℕ → Button → Type 0) (p : Press) (is_chosen : Bool) (old new : Station) (v v_then : View)
-    → ((view : ℕ) (b : Button) → IsOfPress p b → reason view b) → PressesIf is_chosen p.button old new v v_then
+-- without a choice the view is the same
+same-view : (p : Press) (o : Option ℕ) → p.choose ≡ o → (is_chosen : Bool) (old mid : Station) (v mid_view : View)
+    → Chooses is_chosen o old mid v mid_view → p.choose ≡ None → mid_view.number ≡ v.number
+same-view p None e is_chosen old mid v mid_view c none = ap (λ (x : View). x.number) c.1.1
+same-view p (Some q) e is_chosen old mid v mid_view c none = absurd (none-some q (sym none ∙ e))
+
+presses-if-for : (reason : ℕ → Button → Type 0) (p : Press) (r : Outcome) (is_chosen : Bool) (old new : Station)
+    (shown v v_then : View) → (p.choose ≡ None → v.number ≡ shown.number)
+    → ((view : ℕ) (b : Button) → IsOfPress p shown view b → reason view b)
+    → PressesIf is_chosen p.button r old new v v_then → HearsFor reason old new
+presses-if-for reason p r true old new shown v v_then same why c =
+    for_if reason c.is_heard v.number p.button old new v v_then (why v.number p.button (inl (refl, same))) c.pressed
+presses-if-for reason p r false old new shown v v_then same why c = for_stays reason old new v v_then c.0
+
+presses-for : (reason : ℕ → Button → Type 0) (p : Press) (r : Outcome) (old new : Station) (v v_then : View)
+    → ((view : ℕ) (b : Button) → IsOfPress p v view b → reason view b) → Presses p r old new v v_then
     → HearsFor reason old new
-presses-if-for reason p true old new v v_then why c =
-    for_if reason c.is_heard v.number p.button old new v v_then (why v.number p.button (inl refl)) c.pressed
-presses-if-for reason p false old new v v_then why c = for_stays reason old new v v_then c
-
-presses-for : (reason : ℕ → Button → Type 0) (p : Press) (old new : Station) (v v_then : View)
-    → ((view : ℕ) (b : Button) → IsOfPress p b → reason view b) → Presses p old new v v_then → HearsFor reason old new
-presses-for reason p old new v v_then why c =
+presses-for reason p r old new v v_then why c =
     for_then reason old c.mid new (chooses-for reason p p.choose refl c.is_chosen old c.mid v c.mid_view why c.chosen)
-    (presses-if-for reason p c.is_chosen c.mid new c.mid_view v_then why c.pressed)
+    (presses-if-for reason p r c.is_chosen c.mid new v c.mid_view v_then
+    (same-view p p.choose refl c.is_chosen old c.mid v c.mid_view c.chosen) why c.pressed)
 
 at-most-for : (reason : ℕ → Button → Type 0) (p : Press) (old new : Station) (v v_then : View)
-    → ((view : ℕ) (b : Button) → IsOfPress p b → reason view b) → AtMost p old new v v_then → HearsFor reason old new
-at-most-for reason p old new v v_then why (inl c) = presses-for reason p old new v v_then why c
+    → ((view : ℕ) (b : Button) → IsOfPress p v view b → reason view b) → AtMost p old new v v_then
+    → HearsFor reason old new
+at-most-for reason p old new v v_then why (inl c) = presses-for reason p c.0 old new v v_then why c.1
 at-most-for reason p old new v v_then why (inr stays) = for_stays reason old new v v_then stays
 
 strikes-for : (reason : ℕ → Button → Type 0) (s : Struck) (old new : Station) (v v_then : View)
-    → ((p : Press) → s ≡ struck.Presses p → (view : ℕ) (b : Button) → IsOfPress p b → reason view b)
+    → ((p : Press) → s ≡ struck.Presses p → (view : ℕ) (b : Button) → IsOfPress p v view b → reason view b)
     → Strikes s old new v v_then → HearsFor reason old new
 strikes-for reason (struck.Presses p) old new v v_then why c =
     at-most-for reason p old new v v_then (why p refl) c
@@ -64,7 +76,7 @@ strikes-for reason struck.Flooded old new v v_then why c = for_stays reason old 
 strikes-for reason struck.Tap old new v v_then why c = for_stays reason old new v v_then c
 
 spoken-for : (reason : ℕ → Button → Type 0) (sp : Spoken) (h : Hand) (old new : Station) (v v_then : View)
-    → ((p : Press) → MeansSpoken sp h v p → (view : ℕ) (b : Button) → IsOfPress p b → reason view b)
+    → ((p : Press) → MeansSpoken sp h v p → (view : ℕ) (b : Button) → IsOfPress p v view b → reason view b)
     → StrikesSpoken sp h old new v v_then → HearsFor reason old new
 spoken-for reason (spoken.Intent i) h old new v v_then why c =
     strikes-for reason (comes_of h v i) old new v v_then why c
@@ -75,13 +87,13 @@ spoken-for reason spoken.OtherList h old new v v_then why c = for_stays reason o
 spoken-for reason spoken.Unfit h old new v v_then why c = for_stays reason old new v v_then c
 
 by-for : (reason : ℕ → Button → Type 0) (o : Option Intent) (h : Hand) (old new : Station) (v v_then : View)
-    → ((p : Press) → MeansBy o h v p → (view : ℕ) (b : Button) → IsOfPress p b → reason view b)
+    → ((p : Press) → MeansBy o h v p → (view : ℕ) (b : Button) → IsOfPress p v view b → reason view b)
     → StrikesBy o h old new v v_then → HearsFor reason old new
 by-for reason (Some i) h old new v v_then why c = strikes-for reason (comes_of h v i) old new v v_then why c
 by-for reason None h old new v v_then why c = for_stays reason old new v v_then c
 
 struck-why : (s : Setting) (past : List ℕ) (byte : ℕ) (h : Hand) (m : Heard) (v : View) (p : Press)
-    → heard_at past byte ≡ Some m → Means s h m v p → (view : ℕ) (b : Button) → IsOfPress p b
+    → heard_at past byte ≡ Some m → Means s h m v p → (view : ℕ) (b : Button) → IsOfPress p v view b
     → IsStruckAt s past byte view b
 struck-why s past byte h m v p spells means view b is =
     record { message = m; spells = spells; hand = h; shown = v; press = p; means = means; is = is }

@@ -1,2 +1,3 @@
 pub mod Pressing
+pub mod Trying
 pub mod Waiting

@@ -1,5 +1,5 @@
 -- What is pressed at a desk without a browser, and by what.
-use Rattle.std.specs.Prelude.{◌≡◌, ◌⊎◌, Bool, true, false, ℕ, List, [], ◌∷◌, Option, None, Some, Result, Ok, Err}
+use Rattle.std.specs.Prelude.{◌≡◌, ◌⊎◌, Bool, true, false, ℕ, List, [], ◌∷◌, Option, None, Some}
 use Rattle.cue_desk_run.specs.Working.{HearsFor, HearsIf, Stays}
 use Rattle.cue_midi.specs.declared.heard.Heard.{Heard}
 use Rattle.cue_midi.specs.declared.heard.Heard.TheVariants as midi
@@ -12,7 +12,6 @@ use Rattle.cue_presses.specs.declared.hand.Struck.{Struck}
 use Rattle.cue_presses.specs.declared.hand.Struck.TheVariants as struck
 use Rattle.cue_presses.specs.declared.intent.Intent.{Intent}
 use Rattle.cue_presses.specs.declared.pressing.Press.{Press}
-use Rattle.cue_presses.specs.declared.pressing.Why.{Why}
 use Rattle.cue_presses.specs.Address.{spoken_to}
 use Rattle.cue_presses.specs.Hand.{after, comes_of}
 use Rattle.cue_presses.specs.Keys.{intent_of}
@@ -20,7 +19,12 @@ use Rattle.cue_station.specs.declared.heard.Heard.TheVariants as heard
 use Rattle.cue_station.specs.declared.station.Station.{Station}
 use Rattle.cue_view.specs.declared.button.Button.{Button}
 use Rattle.cue_view.specs.declared.button.Button.TheVariants as button
+use Rattle.cue_view.specs.declared.view.Said.{Said}
+use Rattle.cue_view.specs.declared.view.Unsent.{Unsent}
+use Rattle.cue_view.specs.declared.view.Unsent.TheVariants as unsent
 use Rattle.cue_view.specs.declared.view.View.{View}
+use Rattle.cue_buttons_run.specs.declared.pressing.Outcome.{Outcome}
+use Rattle.cue_buttons_run.specs.declared.pressing.Outcome.TheVariants as outcome
 use Rattle.cue_buttons_run.specs.declared.panel.Setting.{Setting}
 
 -- ---- one press
@@ -34,31 +38,42 @@ abbrev pub Chooses : Bool → Option ℕ → (old new : Station) → (v v_then :
 Chooses is_heard None old new v v_then = (is_heard ≡ true) × Stays old new v v_then
 Chooses is_heard (Some q) old new v v_then = PressesOne is_heard (button.Choose q) old new v v_then
 
-pub record PressesButton (b : Button) (old new : Station) (v v_then : View) : Type 0 where
+-- what a view says of the press that was heard last: why it was not sent, or by which ask it was
+abbrev pub outcome_by : Option Unsent → Option Said → Outcome
+outcome_by (Some u) s = outcome.Unsent u
+outcome_by None (Some s) = outcome.Sent s.ask
+outcome_by None None = outcome.Unsent unsent.Dark
+
+abbrev pub outcome_of : View → Outcome
+outcome_of v = outcome_by v.unsent v.said
+
+-- what comes of a press that was heard is what the view after it says
+abbrev pub ComesOf : Bool → Outcome → View → Type 0
+ComesOf true r v_then = r ≡ outcome_of v_then
+ComesOf false r v_then = r ≡ outcome.Unheard
+
+pub record PressesButton (b : Button) (r : Outcome) (old new : Station) (v v_then : View) : Type 0 where
   pub is_heard : Bool
   pub pressed : PressesOne is_heard b old new v v_then
+  pub comes : ComesOf is_heard r v_then
 
 -- then the button is pressed, if the choice was heard
-abbrev pub PressesIf : Bool → Button → (old new : Station) → (v v_then : View) → Type 0
-PressesIf true b old new v v_then = PressesButton b old new v v_then
-PressesIf false b old new v v_then = Stays old new v v_then
+abbrev pub PressesIf : Bool → Button → Outcome → (old new : Station) → (v v_then : View) → Type 0
+PressesIf true b r old new v v_then = PressesButton b r old new v v_then
+PressesIf false b r old new v v_then = Stays old new v v_then × (r ≡ outcome.Unheard)
 
--- Its attempt is chosen, if it has to be, and then its button is pressed, each of the newest view. Nothing else is.
-pub record Presses (p : Press) (old new : Station) (v v_then : View) : Type 0 where
+-- Its attempt is chosen, if it has to be, and then its button is pressed, each of the newest view and once. Nothing else
+-- is, and this comes of it.
+pub record Presses (p : Press) (r : Outcome) (old new : Station) (v v_then : View) : Type 0 where
   pub mid : Station
   pub mid_view : View
   pub is_chosen : Bool
   pub chosen : Chooses is_chosen p.choose old mid v mid_view
-  pub pressed : PressesIf is_chosen p.button mid new mid_view v_then
+  pub pressed : PressesIf is_chosen p.button r mid new mid_view v_then
 
 -- this is pressed and nothing else, or nothing
 abbrev pub AtMost : Press → (old new : Station) → (v v_then : View) → Type 0
-AtMost p old new v v_then = Presses p old new v v_then ⊎ Stays old new v v_then
-
--- what is meant is pressed at most
-abbrev pub AtMostMeant : Result Press Why → (old new : Station) → (v v_then : View) → Type 0
-AtMostMeant (Ok p) old new v v_then = AtMost p old new v v_then
-AtMostMeant (Err w) old new v v_then = Stays old new v v_then
+AtMost p old new v v_then = ((r : Outcome) × Presses p r old new v v_then) ⊎ Stays old new v v_then
 
 -- ---- what is struck
 
@@ -99,14 +114,21 @@ abbrev pub Means : Setting → Hand → Heard → View → Press → Type 0
 Means s h (midi.Show show) v p = MeansSpoken (spoken_to s.address show) h v p
 Means s h m v p = MeansBy (intent_of s.keys h.pedals m) (after s.keys m h) v p
 
--- it is the button of the press, or the choice before it
-abbrev pub IsOfPress : Press → Button → Type 0
-IsOfPress p b = (b ≡ p.button) ⊎ ((q : ℕ) × (p.choose ≡ Some q) × (b ≡ button.Choose q))
+-- it is the choice before a press, of the view that was shown
+abbrev pub IsChoice : Press → View → ℕ → Button → Type 0
+IsChoice p shown view b = (q : ℕ) × (p.choose ≡ Some q) × (b ≡ button.Choose q) × (view ≡ shown.number)
+
+-- or its button: of the view that was shown, unless a choice was made before it
+abbrev pub IsButton : Press → View → ℕ → Button → Type 0
+IsButton p shown view b = (b ≡ p.button) × (p.choose ≡ None → view ≡ shown.number)
+
+abbrev pub IsOfPress : Press → View → ℕ → Button → Type 0
+IsOfPress p shown view b = IsButton p shown view b ⊎ IsChoice p shown view b
 
 -- ---- at which byte of a device it is heard
 
--- Why a press of this button is heard at a byte, after these bytes of the device, the newest first: what the byte
--- finishes after them is a message of MIDI that means it, by what the hand has done and the view shows.
+-- Why a press of this button of a view is heard at a byte, after these bytes of the device, the newest first: what the
+-- byte finishes after them is a message of MIDI that means it, by what the hand has done and that very view shows.
 pub record IsStruckAt (s : Setting) (past : List ℕ) (byte : ℕ) (view : ℕ) (b : Button) : Type 0 where
   pub message : Heard
   pub spells : heard_at past byte ≡ Some message
@@ -114,7 +136,7 @@ pub record IsStruckAt (s : Setting) (past : List ℕ) (byte : ℕ) (view : ℕ) 
   pub shown : View
   pub press : Press
   pub means : Means s hand message shown press
-  pub is : IsOfPress press b
+  pub is : IsOfPress press shown view b
 
 -- it is heard at one of these bytes, which come one after the other after those of the past
 abbrev pub IsStruckIn : Setting → (past bytes : List ℕ) → ℕ → Button → Type 0

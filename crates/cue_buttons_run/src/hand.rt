@@ -1,6 +1,7 @@
 //! One press by a word, at a desk without a browser: what is wished is pressed once it is lit.
-ghost use Rattle.std.specs.Prelude.{◌≡◌, None};
-ghost use Rattle.cue_buttons_run.specs.Pressing.{AtMost, AtMostMeant};
+ghost use Rattle.std.specs.Prelude.{◌≡◌, None, IfOk, OnErr, OnOk};
+ghost use Rattle.cue_buttons_run.specs.Trying.{Comes, IsUnsent, PressesAtMost, PressesOnce, RoundsBy, SendsNothing};
+ghost use Rattle.cue_buttons_run.specs.Trying.{SendsOnce, TriesIf};
 ghost use Rattle.cue_desk_run.specs.Working.{OnlyLooks};
 ghost use Rattle.cue_presses.specs.Meaning.{meaning};
 
@@ -90,10 +91,10 @@ impl<'a, R: Files<File = File> + Net + Clock + Eprint + AllocGlobal> Hand<'a, R>
     }
 
     // Presses what is lit.
-    #[tactic(auto, using(crate::proofs::PressLemmas::at_most, crate::proofs::PressLemmas::at_most_none))]
     fn press(&mut self, press: &Press) -> Progress
-        ensures { AtMost press.now self.old.desk.station self.new.desk.station self.old.desk.view
+        ensures comes { Comes result press.now self.old.desk.station self.new.desk.station self.old.desk.view
             self.new.desk.view }
+        ensures intent { self.new.intent ≡ self.old.intent }
     {
         if !is_lit(self.desk.view(), press) {
             return Progress::Hindered(Hindrance::Dark);
@@ -106,7 +107,9 @@ impl<'a, R: Files<File = File> + Net + Clock + Eprint + AllocGlobal> Hand<'a, R>
     }
 
     // What the view says to an intent that presses nothing.
-    fn hindered(&self, why: Why) -> Result<Progress, AllocError> {
+    fn hindered(&self, why: Why) -> Result<Progress, AllocError>
+        ensures { IfOk result IsUnsent }
+    {
         if !self.is_settled()? {
             return Ok(Progress::Hindered(Hindrance::Dark));
         }
@@ -119,8 +122,9 @@ impl<'a, R: Files<File = File> + Net + Clock + Eprint + AllocGlobal> Hand<'a, R>
 
     // Tries once.
     fn attempt(&mut self) -> Result<Progress, AllocError>
-        ensures { AtMostMeant (meaning self.old.desk.view None self.old.intent) self.old.desk.station
+        ensures tries { TriesIf (meaning self.old.desk.view None self.old.intent) result self.old.desk.station
             self.new.desk.station self.old.desk.view self.new.desk.view }
+        ensures intent { self.new.intent ≡ self.old.intent }
     {
         match meaning(self.desk.view(), None, &self.intent) {
             Ok(press) => Ok(self.press(&press)),
@@ -130,7 +134,8 @@ impl<'a, R: Files<File = File> + Net + Clock + Eprint + AllocGlobal> Hand<'a, R>
 
     // Hears what is there. Answers the moment.
     fn round(&mut self) -> Result<u64, Ending>
-        ensures { OnlyLooks self.old.desk.station self.new.desk.station }
+        ensures looks { OnlyLooks self.old.desk.station self.new.desk.station }
+        ensures intent { self.new.intent ≡ self.old.intent }
     {
         if let Err(why) = self.desk.round() {
             return Err(failed(self.rt, &why));
@@ -142,7 +147,10 @@ impl<'a, R: Files<File = File> + Net + Clock + Eprint + AllocGlobal> Hand<'a, R>
     }
 
     // Waits until something comes.
-    fn rest(&mut self) -> Result<(), Ending> {
+    fn rest(&mut self) -> Result<(), Ending>
+        ensures station { self.new.desk.station ≡ self.old.desk.station }
+        ensures intent { self.new.intent ≡ self.old.intent }
+    {
         match self.desk.wait(PAUSE) {
             Ok(()) => Ok(()),
             Err(why) => Err(failed(self.rt, &why)),
@@ -186,17 +194,42 @@ impl<'a, R: Files<File = File> + Net + Clock + Eprint + AllocGlobal> Hand<'a, R>
         }
     }
 
-    // Tries until it is sent, and at most so many milliseconds.
-    fn send(&mut self, most: u64) -> Result<u64, Ending> {
+    // Goes on after what stood in the way, unless its time is over: then it says why nothing was sent.
+    fn go_on(&self, hindrance: Hindrance, is_over: bool) -> Result<(), Ending> {
+        if is_over {
+            return Err(self.give_up(hindrance)?);
+        }
+        Ok(())
+    }
+
+    // One round: it looks, and tries once. Answers by which ask it is sent; none if it is to be tried again.
+    #[tactic(auto, using(crate::proofs::TryLemmas::unsent_by, crate::proofs::TryLemmas::untried))]
+    fn try_once(&mut self, most: u64) -> Result<Option<u64>, Ending>
+        ensures rounds { RoundsBy self.old.intent result self.old.desk.station self.new.desk.station }
+        ensures intent { self.new.intent ≡ self.old.intent }
+    {
+        let now = self.round()?;
+        match self.attempt()? {
+            Progress::Sent(ask) => Ok(Some(ask)),
+            Progress::Refused(why) => Err(self.refuse(why)?),
+            Progress::Hindered(hindrance) => {
+                self.go_on(hindrance, now > most)?;
+                Ok(None)
+            }
+        }
+    }
+
+    // Tries until it is sent, and at most so many milliseconds. It is sent once at most.
+    #[tactic(auto, using(crate::proofs::TryLemmas::waits_none, crate::proofs::TryLemmas::waits_then, crate::proofs::TryLemmas::sends_nothing, crate::proofs::TryLemmas::waits_only))]
+    fn send(&mut self, most: u64) -> Result<u64, Ending>
+        ensures sends { IfOk result (λ ask. SendsOnce self.old.intent ask self.old.desk.station
+            self.new.desk.station) }
+        ensures nothing { OnErr result (SendsNothing self.old.intent self.old.desk.station self.new.desk.station) }
+        ensures intent { self.new.intent ≡ self.old.intent }
+    {
         for _ in 0..u64::MAX {
-            let now = self.round()?;
-            match self.attempt()? {
-                Progress::Sent(ask) => return Ok(ask),
-                Progress::Refused(why) => return Err(self.refuse(why)?),
-                Progress::Hindered(hindrance) if now > most => {
-                    return Err(self.give_up(hindrance)?);
-                }
-                Progress::Hindered(_) => {}
+            if let Some(ask) = self.try_once(most)? {
+                return Ok(ask);
             }
             self.rest()?;
         }
@@ -211,8 +244,11 @@ impl<'a, R: Files<File = File> + Net + Clock + Eprint + AllocGlobal> Hand<'a, R>
         }
     }
 
-    // Waits until the press is settled, and at most three seconds.
-    fn settle(&mut self, ask: u64) -> Result<Became, Ending> {
+    // Waits until the press is settled, and at most three seconds. It presses nothing.
+    #[tactic(auto, using(cue_desk_run::proofs::WorkLemmas::looks_none, cue_desk_run::proofs::WorkLemmas::looks_then))]
+    fn settle(&mut self, ask: u64) -> Result<Became, Ending>
+        ensures { OnlyLooks self.old.desk.station self.new.desk.station }
+    {
         let begun = self.round()?;
         for _ in 0..u64::MAX {
             let became = self.became(ask);
@@ -246,8 +282,13 @@ impl<'a, R: Files<File = File> + Net + Clock + Eprint + AllocGlobal> Hand<'a, R>
         }
     }
 
-    /// Presses what is wished, and says what became of it. Nothing is sent unless the button is lit.
-    pub fn press_once<W: Write>(&mut self, writer: &mut W) -> Result<(), Ending> {
+    /// Presses what is wished, once, and says what became of it: it tries until it is sent, each time what is meant by
+    /// the view that is shown then, and presses nothing more. Nothing is sent unless the button is lit.
+    #[tactic(auto, using(crate::proofs::TryLemmas::presses_once, crate::proofs::TryLemmas::presses_at_most, crate::proofs::TryLemmas::presses_none))]
+    pub fn press_once<W: Write>(&mut self, writer: &mut W) -> Result<(), Ending>
+        ensures once { PressesAtMost self.old.intent self.old.desk.station self.new.desk.station }
+        ensures done { OnOk result (PressesOnce self.old.intent self.old.desk.station self.new.desk.station) }
+    {
         let ask = self.send(self.wait.unwrap_or(PATIENCE))?;
         let became = self.settle(ask)?;
         self.tell(became, writer)

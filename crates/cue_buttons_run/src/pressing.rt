@@ -1,10 +1,11 @@
 //! A press at a desk without a browser.
-ghost use Rattle.cue_buttons_run.specs.Pressing.{Chooses, Presses, PressesButton, PressesOne};
+ghost use Rattle.std.specs.Prelude.{◌≡◌};
+ghost use Rattle.cue_buttons_run.specs.Pressing.{Chooses, Presses, PressesButton, PressesOne, outcome_of};
 
 use cue_desk_run::Desk;
 use cue_presses::Press;
 use cue_view::button::Button;
-use cue_view::view::Unsent;
+use cue_view::view::{Unsent, View};
 use std::fs::{File, Files};
 use std::net::Net;
 use std::time::Clock;
@@ -32,8 +33,9 @@ fn press_one<R: Files<File = File> + Net + Clock + AllocGlobal>(
 }
 
 // What the view says of the press that was heard last.
-fn outcome_of<R: Files<File = File> + Net + Clock + AllocGlobal>(desk: &Desk<'_, R>) -> Outcome {
-    let view = desk.view();
+fn outcome_of(view: &View) -> Outcome
+    ensures { result ≡ outcome_of view.now }
+{
     match (view.unsent, view.said) {
         (Some(unsent), _) => Outcome::Unsent(unsent),
         (None, Some(said)) => Outcome::Sent(said.ask),
@@ -59,23 +61,23 @@ fn press_button<R: Files<File = File> + Net + Clock + AllocGlobal>(
     desk: &mut Desk<'_, R>,
     button: Button,
 ) -> Outcome
-    ensures { PressesButton button desk.old.station desk.new.station desk.old.view desk.new.view }
+    ensures { PressesButton button result desk.old.station desk.new.station desk.old.view desk.new.view }
 {
     if press_one(desk, button) {
-        outcome_of(desk)
+        outcome_of(desk.view())
     } else {
         Outcome::Unheard
     }
 }
 
-/// Presses what an intent means: the attempt is chosen first, if it has to be. It is a press of the newest view, under
-/// the law of the desk.
+/// Presses what an intent means, once: the attempt is chosen first, if it has to be. It is a press of the newest view,
+/// under the law of the desk, and what comes of it is what the view after it says.
 #[tactic(auto, using(crate::proofs::PressLemmas::chosen_then, crate::proofs::PressLemmas::unchosen))]
 pub fn press_at<R: Files<File = File> + Net + Clock + AllocGlobal>(
     desk: &mut Desk<'_, R>,
     press: &Press,
 ) -> Outcome
-    ensures { Presses press.now desk.old.station desk.new.station desk.old.view desk.new.view }
+    ensures { Presses press.now result desk.old.station desk.new.station desk.old.view desk.new.view }
 {
     if choose(desk, press.choose) {
         press_button(desk, press.button)

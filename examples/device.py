@@ -17,6 +17,7 @@ import re
 import socket
 import struct
 import time
+import zlib
 
 REPEAT = 0.25  # seconds between two copies of an abort that nobody asked for
 COPIES, SOON = 40, 0.025  # after a restart: so many, and the seconds between two
@@ -60,25 +61,43 @@ def read_order(data):
 
 
 class Kept:
-    """The highest number that the device has heard of and where it came from, in a file: it outlives the device."""
+    """The highest number that the device has heard of, and where it came from. It outlives the device in a file, a ring
+    of records: so a loss of power can tear only the one that was being written, which was not acted on."""
 
-    LINE = 33  # bytes: the number, the address, the port
+    SLOTS, SUMMED, LINE = 8, 36, 45  # a record: a count that rises, the number, the address, the port, a checksum
 
     def __init__(self, path):
         self.file = os.open(path, os.O_RDWR | os.O_CREAT, 0o644)
         around = os.open(os.path.dirname(path) or ".", os.O_RDONLY)
         os.fsync(around)  # so that a new file stays
         os.close(around)
-        number, address, port = (os.read(self.file, self.LINE + 1) or b"0 - 0").split()
-        self.number, self.sender = int(number), (address.decode(), int(port))
+        data = os.pread(self.file, self.SLOTS * self.LINE, 0)
+        whole = [*filter(None, (self.record(data[at:at + self.LINE]) for at in range(0, len(data), self.LINE)))]
+        if data and not whole:
+            raise SystemExit(f"{path} has no whole record")
+        self.count, self.number, self.sender = max(whole, default=(0, 0, None))
+
+    @classmethod
+    def record(cls, line):
+        """What a record has; None where it is torn."""
+        if len(line) != cls.LINE or line[cls.SUMMED:] != cls.sum_of(line[:cls.SUMMED]):
+            return None
+        count, number, address, port = line[:cls.SUMMED].split()
+        return int(count), int(number), (socket.inet_ntoa(bytes.fromhex(address.decode())), int(port, 16))
+
+    @staticmethod
+    def sum_of(data):
+        return b"%08x\n" % zlib.crc32(data)
 
     def keep(self, number, sender):
         """It is on the disk when this is done. An error ends the device: it does nothing then."""
-        line = f"{number:010} {sender[0]:>15} {sender[1]:05}\n".encode()
-        if os.pwrite(self.file, line, 0) != len(line):
+        address = socket.inet_aton(sender[0]).hex().encode()
+        line = b"%010d %010d %s %04x " % (self.count + 1, number, address, sender[1])
+        line += self.sum_of(line)
+        if os.pwrite(self.file, line, self.count % self.SLOTS * self.LINE) != len(line):
             raise OSError("the number cannot be kept")
         os.fsync(self.file)
-        self.number, self.sender = number, sender
+        self.count, self.number, self.sender = self.count + 1, number, sender
 
 
 class Device:

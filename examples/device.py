@@ -20,7 +20,7 @@ import time
 import zlib
 
 REPEAT = 0.25  # seconds between two copies of an abort that nobody asked for
-COPIES, SOON = 40, 0.025  # after a restart: so many, and the seconds between two
+COPIES, SOON = 40, 0.025  # of it in its first second: so many, and the seconds between two
 ORDERS = {"/msc/standby": ",iisb", "/msc/go_2pc": ",ii", "/msc/cancel": ",ii"}
 
 
@@ -116,7 +116,8 @@ class Device:
         # A work, or the last answer; and when something comes next without a command. After a restart it says at once
         # that it has forgotten what it prepared.
         self.step, self.due = ("abort", 0.0) if self.attempt else (None, None)
-        self.copies = COPIES if self.attempt else 0  # of that, in its first second, whatever comes but a higher number
+        # Of an abort that nobody asked for, still to be said in its first second, whatever comes but a higher number.
+        self.copies = COPIES if self.attempt else 0
         self.is_heard = False  # whether the controller has replied to its abort
         self.printed = None
         self.sender = None  # of the last datagram
@@ -193,9 +194,10 @@ class Device:
         """What to answer without a command: a work is done, or it cannot go on."""
         if self.due is None or now < self.due:
             return None
-        due = self.due
-        self.enter(self.NEXT[self.step], now)
+        due, was = self.due, self.step
+        self.enter(self.NEXT[was], now)
         if self.step == "abort":
+            self.copies, self.is_heard = (self.copies, self.is_heard) if was == "abort" else (COPIES, False)
             self.due = self.repeats(due or now, now)
         return self.say(self.attempt, self.step)
 

@@ -23,7 +23,7 @@
 #include <unistd.h>
 
 enum { TICK = 250 };             /* milliseconds between two calls of cue_tick */
-enum { SOON = 25, COPIES = 40 }; /* milliseconds between two copies of cue_restarted's answer, and how many (15b) */
+enum { SOON = 25, COPIES = 40 }; /* milliseconds between two copies of an abort in its first second; how many (15b) */
 
 static volatile sig_atomic_t fault; /* the motor's own signal */
 
@@ -41,9 +41,11 @@ static struct {
 } kept;
 
 static struct {
-    struct cue_answer answer; /* of cue_restarted */
-    int left;                 /* how many copies of it are still to send */
-} restarted;
+    struct cue_answer answer; /* an abort that nobody asked for: of cue_restarted or of cue_cannot */
+    uint32_t number;          /* its attempt */
+    int left;                 /* how many copies of it are still to send in its first second */
+    int64_t due;              /* when something is said that nobody asked for */
+} unasked;
 
 /* Ends the winch, with its motor at rest. */
 static void end(const char *what)
@@ -142,6 +144,15 @@ static void carry_out(uint32_t order, const struct cue_device *device)
                (unsigned)device->doing_number, (int)device->cue_length, (const char *)device->cue);
 }
 
+/* An abort that nobody asked for is said forty times in its first second, whatever comes but a higher number. */
+static void say_often(const struct cue_answer *answer, uint32_t number, int left)
+{
+    unasked.answer = *answer;
+    unasked.number = number;
+    unasked.left = answer->length > 0 ? left : 0;
+    unasked.due = now() + (left < COPIES ? SOON : 0);
+}
+
 /* Reports what the motor has done. No answer while it is still at work. */
 static void look_at_motor(struct cue_device *device, struct cue_answer *answer)
 {
@@ -149,8 +160,10 @@ static void look_at_motor(struct cue_device *device, struct cue_answer *answer)
     answer->length = 0;
     if (fault) {
         motor.order = CUE_NO_ORDER;
-        if (cue_cannot(device, answer) != CUE_BAD_CALL)
+        if (cue_cannot(device, answer) != CUE_BAD_CALL) {
             fault = 0; /* else it stays, and the next CUE_PREPARE is answered with abort */
+            say_often(answer, device->last, COPIES - 1);
+        }
     } else if (order != CUE_NO_ORDER && now() >= motor.due) {
         motor.order = CUE_NO_ORDER;
         if (order == CUE_PREPARE)
@@ -190,22 +203,22 @@ static void take(int wire, struct cue_device *device)
     say(wire, &answer);
 }
 
-/* Says what nobody asked for, if it is due; gives when the next is. What the winch was ready for before a restart is
- * over: it says so forty times in its first second, whatever comes but a higher number. Then cue_tick does. */
-static int64_t say_unasked(int wire, const struct cue_device *device, int64_t due)
+/* Says what nobody asked for, if it is due: copies of an abort in its first second, and then what cue_tick gives. */
+static void say_unasked(int wire, const struct cue_device *device)
 {
     struct cue_answer answer;
-    if (now() < due)
-        return due;
-    if (restarted.left > 0 && device->phase == CUE_OVER) {
-        restarted.left--;
-        restarted.answer.to = device->controller;
-        say(wire, &restarted.answer);
-        return due + SOON;
+    if (now() < unasked.due)
+        return;
+    if (unasked.left > 0 && device->last == unasked.number) {
+        unasked.left--;
+        unasked.answer.to = device->controller;
+        say(wire, &unasked.answer);
+        unasked.due += SOON;
+        return;
     }
     cue_tick(device, &answer);
     say(wire, &answer);
-    return now() + TICK;
+    unasked.due = now() + TICK;
 }
 
 /* No other sender is heard from now on. */
@@ -227,8 +240,7 @@ int main(int count, char **words)
     int wire = socket(AF_INET, SOCK_DGRAM, 0);
     if (count > 3)
         open_kept(words[3]);
-    if (count < 4 || cue_restarted(&device, (uint32_t)atoi(words[1]), kept.number, &kept.from, &restarted.answer) !=
-                         CUE_NO_ORDER)
+    if (count < 4 || cue_restarted(&device, (uint32_t)atoi(words[1]), kept.number, &kept.from, &answer) != CUE_NO_ORDER)
         return fprintf(stderr, "winch NUMBER PORT KEPT [PREPARE MOVE [LET_GO [ADDRESS PORT]]]\n"), 2;
     if (count > 8)
         hear_only(&device, words[7], words[8]);
@@ -241,14 +253,15 @@ int main(int count, char **words)
     motor.takes[CUE_GIVE_UP] = count > 6 ? atoi(words[6]) : 0;
     signal(SIGUSR1, on_fault);
     setvbuf(stdout, NULL, _IOLBF, 0);
-    restarted.left = restarted.answer.length > 0 ? COPIES : 0;
-    for (int64_t due = now();;) {
+    say_often(&answer, device.last, COPIES);
+    for (;;) {
         struct pollfd ears = {.fd = wire, .events = POLLIN};
-        int64_t next = motor.order != CUE_NO_ORDER && motor.due < due ? motor.due : due, left = next - now();
+        int64_t next = motor.order != CUE_NO_ORDER && motor.due < unasked.due ? motor.due : unasked.due;
+        int64_t left = next - now();
         if (poll(&ears, 1, left > 0 ? (int)left : 0) > 0)
             take(wire, &device);
         look_at_motor(&device, &answer);
         say(wire, &answer);
-        due = say_unasked(wire, &device, due);
+        say_unasked(wire, &device);
     }
 }

@@ -200,8 +200,9 @@ static inline uint32_t cue_gave_up(struct cue_device *device, struct cue_answer 
 
 /* The machine cannot go on, and is at rest: call it in place of the three above, or while the device is ready. The
  * answer is abort; there is none if the attempt has gone on meanwhile. Call it once for a fault: cue_tick repeats the
- * abort. Gives CUE_NO_ORDER, or CUE_BAD_CALL if the machine is free and the attempt cannot be aborted any more: say it
- * then at the next CUE_PREPARE. */
+ * abort. A /reply to an earlier abort ends that, too: so better send this answer forty times in its first second, every
+ * 25 ms, to `device.controller`, while `device.last` stays. Gives CUE_NO_ORDER, or CUE_BAD_CALL if the machine is free
+ * and the attempt cannot be aborted any more: say it then at the next CUE_PREPARE. */
 static inline uint32_t cue_cannot(struct cue_device *device, struct cue_answer *answer)
 {
     return device == NULL || answer == NULL ? cue_bad_call(answer) : cue_device_cannot(device, answer);

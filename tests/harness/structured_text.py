@@ -1,6 +1,7 @@
 """examples/plc_device.st, turned into Python statement by statement, so that it can play docs/vectors.txt.
 
-What that leaves to a PLC is here: which datagram is an order (device_model.Device.read), Same and Say.
+What that leaves to a PLC is here: which datagram is an order (device_model.Device.read), Same and Say. No compiler of a
+PLC is at hand: `doubtful` finds the names that one would refuse.
 """
 import re
 
@@ -12,6 +13,42 @@ STATEMENT = re.compile(r"\s*(?:IF (?P<if>.*?) THEN|ELSIF (?P<elsif>.*?) THEN|(?P
                        r"(?P<return>RETURN);|(?P<call>\w+\(.*?\));)", re.S)
 PHASES = {name: name.upper().replace(" ", "_") for name in ("over", *device_model.ROWS)}
 WORKS = {"": "NOTHING", "prepare": "PREPARE", "move": "DO_MOVE", "give up": "GIVE_UP"}
+
+# Of IEC 61131-3, third edition: what no name may be, in whatever letters. First what the listing may use of that.
+WORDS = """BOOL BYTE INT USINT UINT UDINT STRING ARRAY OF STRUCT END_STRUCT TYPE END_TYPE VAR RETAIN VAR_INPUT END_VAR
+    FUNCTION_BLOCK END_FUNCTION_BLOCK METHOD PRIVATE PUBLIC END_METHOD IF THEN ELSIF ELSE END_IF CASE END_CASE FOR TO DO
+    END_FOR RETURN AND OR NOT TRUE FALSE""".split()
+RESERVED = {*WORDS, *"""
+    WORD DWORD LWORD SINT DINT LINT ULINT REAL LREAL TIME LTIME DATE LDATE TIME_OF_DAY TOD LTOD DT LDT
+    DATE_AND_TIME CHAR WCHAR WSTRING ANY VAR_OUTPUT VAR_IN_OUT VAR_TEMP VAR_GLOBAL VAR_EXTERNAL VAR_ACCESS
+    VAR_CONFIG CONSTANT NON_RETAIN PERSISTENT AT REF REF_TO NULL FUNCTION END_FUNCTION PROGRAM END_PROGRAM CLASS
+    END_CLASS INTERFACE END_INTERFACE EXTENDS IMPLEMENTS ABSTRACT FINAL PROTECTED INTERNAL OVERRIDE THIS SUPER
+    NAMESPACE END_NAMESPACE USING CONFIGURATION RESOURCE TASK WITH ON STEP INITIAL_STEP END_STEP TRANSITION
+    END_TRANSITION ACTION END_ACTION FROM BY WHILE END_WHILE REPEAT UNTIL END_REPEAT EXIT CONTINUE XOR MOD
+    READ_ONLY READ_WRITE R_EDGE F_EDGE OVERLAP EN ENO ABS SQRT LN LOG EXP SIN COS TAN ASIN ACOS ATAN ADD MUL SUB
+    DIV EXPT MOVE SHL SHR ROL ROR SEL MAX MIN LIMIT MUX GT GE EQ LE LT NE LEN LEFT RIGHT MID CONCAT INSERT DELETE
+    REPLACE FIND TRUNC ROUND SR RS R_TRIG F_TRIG CTU CTD CTUD TP TON TOF ADR SIZEOF POINTER NEW""".split()}
+
+
+def doubtful(text):
+    """Names that are words of the language, or that nothing declares, or that two things have."""
+    text = re.sub(r"\(\*.*?\*\)", "", text, flags=re.S)
+    inside = re.compile(r"^METHOD .*?^END_METHOD", re.M | re.S)
+    outer, methods = inside.sub("", text), inside.findall(text)
+    shared = names_of(outer) + re.findall(r"^METHOD \w+ (\w+)", text, re.M)
+    shared += re.findall(r"^(?:TYPE|FUNCTION_BLOCK) (\w+)", text, re.M)
+    shared += [name for words in re.findall(r"^TYPE \w+ : \((.*)\);", text, re.M) for name in words.split(", ")]
+    found = {name for name in map(str.upper, shared) if [*map(str.upper, shared)].count(name) > 1}
+    for part in (outer, *methods):
+        own = {*map(str.upper, names_of(part) + shared)}
+        found |= own & RESERVED | {word.upper() for word in re.findall(r"\b[A-Za-z_]\w*", part)} - own - {*WORDS}
+    return sorted(found)
+
+
+def names_of(text):
+    """The variables, or the members of a struct, that stand there."""
+    return [name for names in re.findall(r"(\w+(?:, \w+)*) : (?!\()(?!STRUCT)", re.sub(r"METHOD .*", "", text))
+            for name in names.split(", ")]
 
 
 def expression(text):

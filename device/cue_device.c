@@ -77,22 +77,22 @@ static void clear(uint8_t *to, size_t length)
     }
 }
 
-/* Copies, with zeros after it. */
-/*@ requires \valid(to + (0 .. most - 1)) && \valid_read(from + (0 .. length - 1)) && length <= most;
-    requires \separated(to + (0 .. most - 1), from + (0 .. length - 1));
+/* Copies what begins there, with zeros after it. */
+/*@ requires \valid(to + (0 .. most - 1)) && \valid_read(from + (at .. at + length - 1)) && length <= most <= 1000;
+    requires at <= 1000 && \separated(to + (0 .. most - 1), from + (at .. at + length - 1));
     terminates \true;
     assigns to[0 .. most - 1];
-    ensures is_kept(to, most, from, length); */
-static void keep(uint8_t *to, size_t most, const uint8_t *from, size_t length)
+    ensures IS_KEPT(to, most, from, at, length); */
+static void keep(uint8_t *to, size_t most, const uint8_t *from, size_t at, size_t length)
 {
     volatile uint8_t *out = to;
     size_t i;
     /*@ loop invariant 0 <= i <= most;
-        loop invariant \forall integer k; 0 <= k < i ==> to[k] == (k < length ? from[k] : 0);
+        loop invariant \forall integer k; 0 <= k < i ==> to[k] == (k < length ? \at(from[at + k], Pre) : 0);
         loop assigns i, to[0 .. most - 1];
         loop variant most - i; */
     for (i = 0; i < most; i++) {
-        out[i] = i < length ? from[i] : 0u;
+        out[i] = i < length ? from[at + i] : 0u;
     }
 }
 
@@ -311,10 +311,22 @@ static bool is_short_blob(const uint8_t *datagram, size_t at, size_t length)
 struct order {
     enum column column;
     uint32_t attempt;
-    size_t cue_at, cue_length, bytes_at, bytes_length; /* of a standby: where in the datagram they are */
+    size_t cue_length, bytes_length; /* of a standby */
 };
 
-static const struct order NO_ORDER = {NO_COLUMN, 0, 0, 0, 0, 0};
+static const struct order NO_ORDER = {NO_COLUMN, 0, 0, 0};
+
+/* Where the cue of a standby begins, and its bytes after a cue of this length. */
+#define CUE_AT 32u
+
+/*@ requires cue_length <= MOST_CUE;
+    terminates \true;
+    assigns \nothing;
+    ensures \result == blob_at(cue_length) + 4; */
+static size_t bytes_at(size_t cue_length)
+{
+    return CUE_AT + end_of_text(cue_length) + 4u;
+}
 
 /* Reads a standby for the device of this number. */
 /*@ requires \valid_read(datagram + (0 .. length - 1)) && length <= 65535;
@@ -324,8 +336,7 @@ static const struct order NO_ORDER = {NO_COLUMN, 0, 0, 0, 0, 0};
     ensures \result.column == OTHER_STANDBY ==>
       is_standby(datagram, length, number, \result.attempt, \result.cue_length, \result.bytes_length);
     ensures \result.column == OTHER_STANDBY ==>
-      \result.cue_at == 32 && \result.bytes_at == blob_at(\result.cue_length) + 4
-      && 32 + \result.cue_length <= length && \result.bytes_at + \result.bytes_length <= length
+      blob_at(\result.cue_length) + 4 + \result.bytes_length <= length
       && \result.cue_length <= MOST_CUE && \result.bytes_length <= MOST_BYTES;
     ensures \result.column == OTHER_STANDBY ==>
       \forall integer q, c, b; is_standby(datagram, length, number, q, c, b) ==>
@@ -340,22 +351,20 @@ static struct order standby_of(const uint8_t *datagram, size_t length, uint32_t 
     if (length < 40u || !is_of_standby(datagram)) {
         return order;
     }
-    rest = length - 32u;
+    rest = length - CUE_AT;
     /*@ assert rest == length - 32; */
     order.attempt = attempt_of(datagram + 24, number);
-    order.cue_length = cue_of(datagram + 32, rest);
+    order.cue_length = cue_of(datagram + CUE_AT, rest);
     if (order.attempt == 0u || order.cue_length == 0u) {
         /*@ assert order.attempt == 0 ==> \forall integer q; !has_numbers(datagram + 24, number, q); */
         /*@ assert order.cue_length == 0 ==> \forall integer c; !is_cue_text(datagram + 32, length - 32, c); */
         return order;
     }
     /*@ assert \forall integer c; is_cue_text(datagram + 32, length - 32, c) ==> c == order.cue_length; */
-    at = 32u + end_of_text(order.cue_length);
+    at = CUE_AT + end_of_text(order.cue_length);
     /*@ assert at == blob_at(order.cue_length) && at <= length; */
     if (is_short_blob(datagram, at, length)) {
         order.column = OTHER_STANDBY;
-        order.cue_at = 32u;
-        order.bytes_at = at + 4u;
         order.bytes_length = (size_t)int_of(datagram + at);
         /*@ assert is_blob(datagram, blob_at(order.cue_length), length, order.bytes_length); */
         /*@ assert \forall integer b; is_blob(datagram, blob_at(order.cue_length), length, b) ==>
@@ -368,8 +377,7 @@ static struct order standby_of(const uint8_t *datagram, size_t length, uint32_t 
 }
 
 /* Whether the device has heard this very standby: the same cue and the same bytes. */
-/*@ requires \valid_read(datagram + (0 .. order.bytes_at + order.bytes_length - 1)) && \valid_read(device);
-    requires order.cue_at == 32 && order.bytes_at == blob_at(order.cue_length) + 4;
+/*@ requires \valid_read(datagram + (0 .. blob_at(order.cue_length) + 3 + order.bytes_length)) && \valid_read(device);
     requires order.cue_length <= MOST_CUE && order.bytes_length <= MOST_BYTES;
     terminates \true;
     assigns \nothing;
@@ -379,8 +387,8 @@ static bool is_copy_of(const struct cue_device *device, const uint8_t *datagram,
 {
     return order.attempt == device->last && order.cue_length == device->cue_length &&
            order.bytes_length == device->bytes_length &&
-           is_same(datagram + order.cue_at, device->cue, order.cue_length) &&
-           is_same(datagram + order.bytes_at, device->bytes, order.bytes_length);
+           is_same(datagram + CUE_AT, device->cue, order.cue_length) &&
+           is_same(datagram + bytes_at(order.cue_length), device->bytes, order.bytes_length);
 }
 
 /* Reads an order for this device: exactly the bytes of the protocol, and no byte more. */
@@ -390,12 +398,9 @@ static bool is_copy_of(const struct cue_device *device, const uint8_t *datagram,
     ensures SAME_STANDBY <= \result.column <= NO_COLUMN;
     ensures \result.column != NO_COLUMN ==> is_order(device, datagram, length, \result.column, \result.attempt,
                                                      \result.cue_length, \result.bytes_length);
-    ensures \result.column <= OTHER_STANDBY ==>
-      \result.cue_at == 32 && \result.bytes_at == blob_at(\result.cue_length) + 4;
+    ensures \result.column <= OTHER_STANDBY ==> blob_at(\result.cue_length) + 4 + \result.bytes_length <= length;
     ensures GO <= \result.column <= CANCEL ==> \result.cue_length == 0 && \result.bytes_length == 0;
     ensures \result.column == SAME_STANDBY ==> \result.attempt == device->last;
-    ensures \result.column != NO_COLUMN ==> \result.cue_at + \result.cue_length <= length
-      && \result.bytes_at + \result.bytes_length <= length;
     ensures \result.cue_length <= MOST_CUE && \result.bytes_length <= MOST_BYTES;
     ensures \result.column != NO_COLUMN ==>
       \forall integer k, q, c, b; is_order(device, datagram, length, k, q, c, b) ==> k == \result.column
@@ -722,29 +727,31 @@ static struct cell higher_cell(bool is_at_work, uint32_t column)
 
 /* A higher number ends the attempt before it. */
 /*@ requires \valid(device) && order.cue_length <= MOST_CUE && order.bytes_length <= MOST_BYTES;
-    requires \valid_read(datagram + (order.cue_at .. order.cue_at + order.cue_length - 1));
-    requires \valid_read(datagram + (order.bytes_at .. order.bytes_at + order.bytes_length - 1));
-    requires \separated(device, datagram + (order.cue_at .. order.cue_at + order.cue_length - 1));
-    requires \separated(device, datagram + (order.bytes_at .. order.bytes_at + order.bytes_length - 1));
+    requires order.column <= OTHER_STANDBY ==> IS_APART(device, datagram, order.cue_length, order.bytes_length);
+    requires order.column >= GO ==> order.cue_length == 0 && order.bytes_length == 0;
     terminates \true;
     assigns device->last, device->unheard, device->cue_length, device->bytes_length, device->cue[0 .. 15],
       device->bytes[0 .. 31];
     ensures device->last == order.attempt && device->unheard == 0;
     ensures device->cue_length == order.cue_length && device->bytes_length == order.bytes_length;
-    ensures is_kept(&device->cue[0], 16, datagram + order.cue_at, order.cue_length);
-    ensures is_kept(&device->bytes[0], 32, datagram + order.bytes_at, order.bytes_length);
-    ensures \forall integer k; 0 <= k < order.cue_length ==> device->cue[k] == \old(datagram[order.cue_at + k]);
-    ensures \forall integer k; 0 <= k < order.bytes_length ==> device->bytes[k] == \old(datagram[order.bytes_at + k]);
-    ensures same_name{Pre, Post}(device) && same_work{Pre, Post}(device) && same_controller{Pre, Post}(device); */
+    ensures IS_KEPT(device->cue, 16, datagram, 32, order.cue_length);
+    ensures IS_KEPT(device->bytes, 32, datagram, blob_at(order.cue_length) + 4, order.bytes_length);
+    ensures STAYS(device->only.bytes, 8) && STAYS(device->controller.bytes, 8);
+    ensures same_name{Pre, Post}(device);
+    ensures same_work{Pre, Post}(device);
+    ensures same_controller{Pre, Post}(device); */
 static void begin(struct cue_device *device, const uint8_t *datagram, struct order order)
 {
     device->last = order.attempt;
     device->unheard = 0;
     device->cue_length = (uint32_t)order.cue_length;
     device->bytes_length = (uint32_t)order.bytes_length;
-    keep(device->cue, sizeof device->cue, datagram + order.cue_at, order.cue_length);
-    keep(device->bytes, sizeof device->bytes, datagram + order.bytes_at, order.bytes_length);
-    /*@ assert is_kept(&device->cue[0], 16, datagram + order.cue_at, order.cue_length); */
+    /*@ assert 32 + order.cue_length < blob_at(order.cue_length) <= 1000; */
+    keep(device->cue, sizeof device->cue, datagram, CUE_AT, order.cue_length);
+    /*@ assert STAYS(&datagram[blob_at(order.cue_length) + 4], order.bytes_length); */
+    keep(device->bytes, sizeof device->bytes, datagram, bytes_at(order.cue_length), order.bytes_length);
+    /*@ assert IS_KEPT(device->cue, 16, datagram, 32, order.cue_length); */
+    /*@ assert STAYS(device->only.bytes, 8) && STAYS(device->controller.bytes, 8); */
 }
 
 /* An order that is late changes nothing but where answers go. */
@@ -769,6 +776,7 @@ static uint32_t obey_late(struct cue_device *device, const struct cue_place *fro
     terminates \true;
     assigns device->phase, device->doing, device->doing_number, device->controller, *answer;
     ensures takes{Pre, Post}(device, answer, \result, cell.word, cell.order, cell.phase);
+    ensures STAYS(device->cue, 16) && STAYS(device->bytes, 32);
     ensures same_name{Pre, Post}(device) && is_controller(device, from); */
 static uint32_t take(struct cue_device *device, const struct cue_place *from, struct cell cell,
                      struct cue_answer *answer)
@@ -806,12 +814,8 @@ static uint32_t obey_known(struct cue_device *device, const struct cue_place *fr
     requires \separated(device, answer) && \separated(device, from) && \separated(answer, from);
     requires device->number <= MOST_NUMBER && OTHER_STANDBY <= order.column <= CANCEL;
     requires order.cue_length <= MOST_CUE && order.bytes_length <= MOST_BYTES;
-    requires order.column <= OTHER_STANDBY ==> order.cue_at == 32 && order.bytes_at == blob_at(order.cue_length) + 4;
+    requires order.column <= OTHER_STANDBY ==> IS_APART(device, datagram, order.cue_length, order.bytes_length);
     requires order.column >= GO ==> order.cue_length == 0 && order.bytes_length == 0;
-    requires \valid_read(datagram + (order.cue_at .. order.cue_at + order.cue_length - 1));
-    requires \valid_read(datagram + (order.bytes_at .. order.bytes_at + order.bytes_length - 1));
-    requires \separated(device, datagram + (order.cue_at .. order.cue_at + order.cue_length - 1));
-    requires \separated(device, datagram + (order.bytes_at .. order.bytes_at + order.bytes_length - 1));
     terminates \true;
     assigns *device, *answer;
     ensures obeys_higher{Pre, Post}(device, datagram, answer, \result, order.column, order.attempt, order.cue_length,
@@ -821,17 +825,12 @@ static uint32_t obey_higher(struct cue_device *device, const struct cue_place *f
                             struct order order, struct cue_answer *answer)
 {
     const struct cell cell = higher_cell(device->doing != (uint32_t)CUE_NO_ORDER, (uint32_t)order.column);
+    uint32_t ordered;
     begin(device, datagram, order);
-    /*@ assert order.cue_length > 0 ==> order.cue_at == 32; */
-    /*@ assert order.bytes_length > 0 ==> order.bytes_at == blob_at(order.cue_length) + 4; */
-    /*@ assert \forall integer k; 0 <= k < order.cue_length ==>
-          device->cue[k] == \at(datagram[order.cue_at + k], Pre); */
-    /*@ assert \forall integer k; order.cue_length <= k < 16 ==> device->cue[k] == 0; */
-    /*@ assert \forall integer k; 0 <= k < order.bytes_length ==>
-          device->bytes[k] == \at(datagram[order.bytes_at + k], Pre); */
-    /*@ assert \forall integer k; order.bytes_length <= k < 32 ==> device->bytes[k] == 0; */
+    ordered = take(device, from, cell, answer);
     /*@ assert heard_new{Pre, Here}(device, datagram, order.attempt, order.cue_length, order.bytes_length); */
-    return take(device, from, cell, answer);
+    /*@ assert begins{Pre, Here}(device, ordered); */
+    return ordered;
 }
 
 /*@ requires \valid(device) && \valid(answer) && \valid_read(from);
@@ -839,12 +838,8 @@ static uint32_t obey_higher(struct cue_device *device, const struct cue_place *f
     requires device->number <= MOST_NUMBER && device->phase <= CUE_FAILED && order.column <= CANCEL;
     requires order.column == SAME_STANDBY ==> order.attempt == device->last;
     requires order.cue_length <= MOST_CUE && order.bytes_length <= MOST_BYTES;
-    requires order.column <= OTHER_STANDBY ==> order.cue_at == 32 && order.bytes_at == blob_at(order.cue_length) + 4;
+    requires order.column <= OTHER_STANDBY ==> IS_APART(device, datagram, order.cue_length, order.bytes_length);
     requires order.column >= GO ==> order.cue_length == 0 && order.bytes_length == 0;
-    requires \valid_read(datagram + (order.cue_at .. order.cue_at + order.cue_length - 1));
-    requires \valid_read(datagram + (order.bytes_at .. order.bytes_at + order.bytes_length - 1));
-    requires \separated(device, datagram + (order.cue_at .. order.cue_at + order.cue_length - 1));
-    requires \separated(device, datagram + (order.bytes_at .. order.bytes_at + order.bytes_length - 1));
     terminates \true;
     assigns *device, *answer;
     ensures obeys{Pre, Post}(device, datagram, answer, \result, order.column, order.attempt, order.cue_length,
@@ -966,6 +961,9 @@ uint32_t cue_device_hear_only(struct cue_device *device, const struct cue_place 
         return CUE_BAD_CALL;
     }
     copy(device->only.bytes, sender->bytes, sizeof sender->bytes);
+    /*@ assert STAYS(device->cue, 16); */
+    /*@ assert STAYS(device->bytes, 32); */
+    /*@ assert STAYS(device->controller.bytes, 8); */
     return CUE_NO_ORDER;
 }
 

@@ -165,11 +165,11 @@
 
 /* ---- what a device keeps */
 
-/*@ // these bytes, and zeros after them
-    predicate is_kept{L}(uint8_t *to, integer most, uint8_t *m, integer length) =
-      \forall integer k; 0 <= k < most ==> to[k] == (k < length ? m[k] : 0);
+/* The bytes that began there when the function was called, and zeros after them. */
+#define IS_KEPT(to, most, from, start, length)                                                                         \
+    (\forall integer k; 0 <= k < (most) ==> (to)[k] == (k < (length) ? \at((from)[(start) + k], Pre) : 0))
 
-    // the name of the device, and what it was told to hear alone
+/*@ // the name of the device, and what it was told to hear alone
     predicate same_name{A, B}(struct cue_device *d) =
       \at(d->magic, A) == \at(d->magic, B) && \at(d->size, A) == \at(d->size, B)
       && \at(d->number, A) == \at(d->number, B)
@@ -205,6 +205,10 @@
     (STAYS((d)->only.bytes, 8) && STAYS((d)->cue, 16) && STAYS((d)->bytes, 32) && STAYS((d)->controller.bytes, 8))
 
 /* ---- what a device makes of an order */
+
+/* The bytes of a standby can be read there, and lie apart from the device. */
+#define IS_APART(d, m, c, b)                                                                                           \
+    (\valid_read((m) + (0 .. blob_at(c) + 3 + (b))) && \separated(d, (m) + (0 .. blob_at(c) + 3 + (b))))
 
 /*@ // whether it hears this sender
     predicate hears{L}(struct cue_device *d, struct cue_place *from) =

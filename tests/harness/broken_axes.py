@@ -244,7 +244,73 @@ class SpellsTwoDigits(Axis):
         self.box.wire.sendto(two_axes.text_of(address) + two_axes.text_of(b",i") + two_axes.int_of(number), self.place)
 
 
-# The class, the requirement, and what the tester is given: a fault, a restart, or a machine that prepares slowly.
+class SaysThatItIsReadyOnItsWay(Axis):
+    """It goes on saying that it is ready while it moves."""
+    says = 0.0
+
+    def look(self, now):
+        super().look(now)
+        if self.phase in ("ready", "moving") and now >= self.says:
+            self.says = now + COPY
+            self.say("standing_by", self.last)
+
+
+class AbortsTooOften(Axis):
+    """It repeats its abort forty times in each second."""
+
+    def look(self, now):
+        super().look(now)
+        if self.phase == "failed" and self.next_abort is not None:
+            self.next_abort = min(self.next_abort, now + FIRST)
+
+
+class SaysItsRestartOfTheNext(Axis):
+    """A higher number does not end what it says of its restart: it says it of that one."""
+
+    def hear(self, kind, attempt, place, rest):
+        due, forty, last = self.next_abort, self.forty, self.last
+        super().hear(kind, attempt, place, rest)
+        if self.last > last:
+            self.next_abort, self.forty = due, forty
+
+
+class KeepsSome(Axis):
+    """It does not write the numbers of the orders of some kinds when it hears them."""
+    kinds = ()
+
+    def hear(self, kind, attempt, place, rest):
+        if kind not in self.kinds:
+            super().hear(kind, attempt, place, rest)
+            return
+        self.box.keep = lambda: None
+        super().hear(kind, attempt, place, rest)
+        del self.box.keep
+
+
+class KeepsStandbysAlone(KeepsSome):
+    """It writes the number of a standby, and of no other order."""
+    kinds = ("go_2pc", "cancel")
+
+
+class WritesOncePrepared(KeepsSome):
+    """It writes the number of a standby once it has prepared."""
+    kinds, brake = ("standby",), 0.6
+
+    def look(self, now):
+        was = self.phase
+        super().look(now)
+        if was == "preparing" and self.phase != was:
+            self.box.keep()
+
+
+class ForgetsNothing(Axis):
+    """Its key has it forget no number."""
+
+    def __init__(self, box, number, last, place):
+        super().__init__(box, number, getattr(self, "last", last), getattr(self, "place", place))
+
+
+# The class, the requirement, and what the tester is given: a fault, a restart, a key, or one that prepares slowly.
 BROKEN = {
     "keeps-silent-at-a-late-cancel": (KeepsSilentAtALateCancel, "6d", ""),
     "keeps-silent-at-lower-numbers": (KeepsSilentAtLowerNumbers, "7b", ""),
@@ -270,6 +336,12 @@ BROKEN = {
     "moves-and-aborts": (MovesAndAborts, "4a", ""),
     "says-that-it-is-ready-too-often": (SaysThatItIsReadyTooOften, "17a", ""),
     "spells-two-digits": (SpellsTwoDigits, "12d", ""),
+    "says-that-it-is-ready-on-its-way": (SaysThatItIsReadyOnItsWay, "17a", ""),
+    "aborts-too-often": (AbortsTooOften, "9a", "fault"),
+    "says-its-restart-of-the-next": (SaysItsRestartOfTheNext, "15b", "restart"),
+    "keeps-standbys-alone": (KeepsStandbysAlone, "13a", "restart"),
+    "writes-once-prepared": (WritesOncePrepared, "13b", "restart"),
+    "forgets-nothing": (ForgetsNothing, "8a", "forget"),
 }
 
 

@@ -23,7 +23,8 @@ def name_of_type(words):
 
 
 def name_of_impl(head):
-    """How the prover names what an impl is of: its type, and the trait after it."""
+    """How the prover names what an impl is of: its type, and the trait after it. Where a type has a trait several times,
+    as `From`, what the trait is of stands after that; it is not known here whether a macro wrote another."""
     head = head.removeprefix("impl").strip()
     if head.startswith("<"):
         depth, end = 0, 0
@@ -101,6 +102,15 @@ class Edit:
             at = text.find(old) + len(old) - len(old.lstrip())
             found.add(function_at(path, text, at) if path.startswith("src/") else None)
         return found.pop() if len(found) == 1 else None
+
+    def names(self):
+        """How the prover may name the function that it breaks: the one that it changes, or that its first line names."""
+        changed, longer = self.function(), []
+        for path, _, _ in self.pairs() if changed else ():
+            text = (ROOT / "crates" / self.crate / path).read_text()
+            of = re.findall(r"^impl(?:<[^{]*>)? (?:\w+::)*\w+<(\w+)> for ", text, re.M)
+            longer += [re.sub(r"::(?=\w+$)", each + "::", changed) for each in of]
+        return list(dict.fromkeys(filter(None, [changed, *longer, self.head])))
 
     def lay(self, crate):
         """Changes the files of a copy of the crate."""

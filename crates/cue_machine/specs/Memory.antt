@@ -1,5 +1,5 @@
 -- What ears and post in memory show.
-use Rattle.std.specs.Prelude.{List, map, Option, Some, None, if◌then◌else◌}
+use Rattle.std.specs.Prelude.{ℕ, List, map, Option, Some, None, if◌then◌else◌}
 use Rattle.cue_machine.specs.declared.mem.MemAnswer.{MemAnswer}
 use Rattle.cue_machine.specs.declared.mem.MemAnswer.TheVariants as mem
 use Rattle.cue_machine.specs.declared.mem.MemEars.{MemEars}
@@ -28,3 +28,7 @@ posted_view s = posted_as s.output s.bytes.items s.lost
 -- all that went out, if it is shown
 abbrev pub posted_by : MemPost → Option (List Posted)
 posted_by post = if post.shows then Some (map posted_view post.sent.items) else None
+
+-- the output that is lost, counted from the next one; 0 for none
+abbrev pub loses_in : MemPost → ℕ
+loses_in post = post.lose_in

@@ -1,7 +1,7 @@
 //! Ears and post in memory, for tests and proofs: they show all that was told and all that went out.
-ghost use Rattle.std.specs.Prelude.{◌≡◌, ◌++◌, [], ◌∷◌, Some, OnOk, length, map};
+ghost use Rattle.std.specs.Prelude.{◌≡◌, ◌++◌, [], ◌∷◌, Some, IfSome, OnOk, length, map};
 ghost use Rattle.cue_machine.specs.Hearing.{IsWithin, answer_as};
-ghost use Rattle.cue_machine.specs.Memory.{answer_view, posted_by, posted_view, told_by};
+ghost use Rattle.cue_machine.specs.Memory.{answer_view, loses_in, posted_by, posted_view, told_by};
 ghost use Rattle.cue_machine.specs.Posting.{posted_as};
 
 use crate::ears::{Ears, EarsFault, Input, Turn};
@@ -115,7 +115,8 @@ pub struct MemPost {
 impl MemPost {
     /// A post to which nothing was given, and which loses nothing.
     pub fn new(alloc: Global) -> MemPost
-        ensures { posted_by result ≡ Some [] }
+        ensures nothing { posted_by result ≡ Some [] }
+        ensures loses { loses_in result ≡ 0 }
     {
         MemPost {
             alloc,
@@ -127,13 +128,16 @@ impl MemPost {
 
     /// Lets the k-th output from now be lost; with `k = 0` none is.
     pub fn lose(&mut self, k: u64)
-        ensures { posted_by self.new ≡ posted_by self.old }
+        ensures same { posted_by self.new ≡ posted_by self.old }
+        ensures loses { loses_in self.new ≡ k }
     {
         self.lose_in = k;
     }
 
     /// All that went out so far, in order, unless there was no memory for something.
-    pub fn sent(&self) -> &[Sent] {
+    pub fn sent(&self) -> &[Sent]
+        ensures { IfSome (posted_by self.now) (λ all. map posted_view result.now ≡ all) }
+    {
         &self.sent
     }
 

@@ -31,8 +31,8 @@ run-state s past (x ∷ hs) now =
     ap state_of (onto_next batch (run next hs).batches past)
     ∙ run-state next (onto batch past) hs (state_next s past batch now)
 
--- behind a history in which the device is done with, nothing is sent to it
-none_sent : (q d : ℕ) (s : ShowState) (past : List Event) (later : List Happening) → state_of past ≡ s
+-- after a history in which the device is done with, nothing is sent to it
+pub none_sent : (q d : ℕ) (s : ShowState) (past : List Event) (later : List Happening) → state_of past ≡ s
     → IsTrue (is_history past) → list_any (is_end_of q d) past ≡ true
     → list_any (tells q d) (run s later).sends ≡ true → false ≡ true
 none_sent q d s past [] now h ended k = k

@@ -6,16 +6,18 @@ use Rattle.std.specs.Prelude.{◌≡◌, ◌⊎◌, ℕ, Bool, true, not, ◌&&�
 use Rattle.std.specs.List.{list_any}
 use Rattle.cue_core.specs.declared.event.Event.{Event}
 use Rattle.cue_core.specs.declared.event.Event.TheVariants.{Start, Go}
-use Rattle.cue_core.specs.Events.{is_start_of}
+use Rattle.cue_core.specs.Events.{is_end_of, is_start_of}
 use Rattle.cue_core.specs.State.{ShowState, empty_state}
 use Rattle.cue_core.specs.Happenings.{onto}
 use Rattle.cue_core.specs.History.{is_history}
 use Rattle.cue_core.specs.Pending.{Order}
-use Rattle.cue_core.specs.Safety.{is_go_to, is_cancel_to}
+use Rattle.cue_core.specs.Safety.{is_go_to, is_cancel_to, is_order_to}
+use Rattle.cue_core.specs.Steps.{after_events}
+use Rattle.cue_outbox.specs.Sending.{Send}
 use Rattle.cue_engine.specs.Attempts.{IsDecidedInOrder, is_order_with}
 use Rattle.cue_engine.specs.Groups.{all_took}
 use Rattle.cue_engine.specs.Headline.{AreKept, BeginsWith, MayRead, all_handed, is_cut_off}
-use Rattle.cue_engine.specs.Incidents.{Incident, Store, Happens, left_by_all}
+use Rattle.cue_engine.specs.Incidents.{Incident, Store, Happens, left_by_all, running}
 use Rattle.cue_engine.specs.Incidents.{committed, stopped_in_commit, recovered, stopped_in_recovery}
 use Rattle.cue_engine.specs.Runs.{Happening, run, joined_list}
 use Rattle.cue_engine.specs.Runs as runs
@@ -73,3 +75,17 @@ abbrev pub NeverHandedBoth : Type 0
 NeverHandedBoth = (store : Store) (is : List Incident) (x y : List ℕ) (q d e : ℕ) → BeginsWith store empty_state
     → Happens store is → MayRead (left_by_all store is) x y
     → IsTrue (not (was_handed (is_go_to q d) store is && was_handed (is_cancel_to q e) store is))
+
+-- an order to the device d in the attempt q is among these
+abbrev pub tells : ℕ → ℕ → List (ℕ × Send) → Bool
+tells q d ms = list_any (λ m. is_order_with (is_order_to q d) m.1) ms
+
+-- An engine runs with the state that the kept batches make, and by these a device is done with in an attempt: it has
+-- answered for the last time, or was excused. If it is owed nothing there by then, nothing is handed to the network for
+-- it there any more, whatever happens, with stops anywhere.
+abbrev pub NothingMoreIsHanded : Type 0
+NothingMoreIsHanded = (is later : List Incident) (kept : List (List Event)) (owed : List (ℕ × Send)) (q d : ℕ)
+    → AreKept empty_state is kept → IsTrue (list_any (is_end_of q d) (joined_list kept))
+    → IsTrue (not (tells q d owed))
+    → Happens (running (after_events empty_state (joined_list kept)) owed) later
+    → IsTrue (not (tells q d (all_handed (running (after_events empty_state (joined_list kept)) owed) later)))

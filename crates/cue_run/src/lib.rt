@@ -1,7 +1,7 @@
 //! The run of a show: the loop between where datagrams and ticks come from and where datagrams go.
 //!
-//! A run is a function of what its source and its wire report: the inputs that it took are the first ones that the
-//! source gave, and state and wire are what the engine's own definition of a run makes of them. Nothing is handed over
+//! What a run makes is a function of the inputs that it took: they are the first ones that the source gave, and state
+//! and wire are what the engine's own definition of a run makes of them. Nothing is handed over
 //! for an input that was not taken. `UdpSource` and `UdpWire` report nothing; what holds of them is what is proved of
 //! the same loop over every source and wire.
 //!

@@ -14,6 +14,8 @@ use Rattle.cue_device.specs.declared.hearing.Told.{Told}
 use Rattle.cue_device.specs.declared.hearing.Told.TheVariants.{Prepared, Moved, GaveUp, Cannot}
 use Rattle.cue_device.specs.declared.hearing.Place.{Place}
 use Rattle.cue_device.specs.declared.hearing.Place.TheVariants.{Over, Same, New}
+use Rattle.cue_device.specs.declared.reports.Report.{Report}
+use Rattle.cue_device.specs.declared.reports.Report.TheVariants as report
 use Rattle.cue_device.specs.declared.phase.Attempt.{Attempt}
 use Rattle.cue_device.specs.declared.phase.Phase.{Phase}
 use Rattle.cue_device.specs.declared.phase.Cell.{Cell}
@@ -156,6 +158,13 @@ told_of (Prepared q) = q
 told_of (Moved q) = q
 told_of (GaveUp q) = q
 told_of (Cannot q) = q
+
+-- what a machine reports of the attempt of this number
+abbrev pub told_as : Report → ℕ → Told
+told_as report.Prepared q = Prepared q
+told_as report.Moved q = Moved q
+told_as report.GaveUp q = GaveUp q
+told_as report.Cannot q = Cannot q
 
 -- the row of the table
 abbrev pub told_in : Told → Phase → Cell

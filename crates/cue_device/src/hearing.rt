@@ -2,15 +2,16 @@
 ghost use Rattle.std.specs.Prelude.{◌≡◌, Some, is_none};
 ghost use Rattle.cue_device.specs.declared.hearing.Told.TheVariants.{Prepared, Moved, GaveUp, Cannot};
 ghost use Rattle.cue_device.specs.Hearing.{after_command, after_reply, after_told, answer_ticked, answer_told};
-ghost use Rattle.cue_device.specs.Hearing.{begun, ends, what_comes_of, left_after};
+ghost use Rattle.cue_device.specs.Hearing.{begun, what_comes_of, left_after};
 ghost use Rattle.cue_device.specs.Hearing.{attempt_with_report, place};
 ghost use Rattle.cue_device.specs.Hearing.{answer_call, after_call, device_restarted, is_in_time, reported_for};
 ghost use Rattle.cue_device.specs.Hearing.{device_at_rest, said_by, phase_now, task_now, after_cell};
-ghost use Rattle.cue_device.specs.Hearing.{told_in, told_of, unheard_after, with_parts};
+ghost use Rattle.cue_device.specs.Hearing.{with_parts};
 
 use crate::asked::{Command, Task};
 use crate::phase::{Attempt, Cell, Phase};
-use crate::table::{again, answer_over, cannot_in, gave_up_in, moved_in, new_number, prepared_in};
+use crate::reports::left_after;
+use crate::table::{again, answer_over, new_number};
 use crate::words::{Answer, Order, doing_after};
 use cue_show::DeviceNo;
 
@@ -53,8 +54,9 @@ pub enum Place {
     New,
 }
 
-/// A device. All of its state is in this value: it takes no memory, and its caller may keep it in static memory.
-#[derive(Clone, Copy)]
+/// A device. All of its state is in this value: it takes no memory, and its caller may keep it in static memory. It is
+/// neither copied nor cloned: a device that goes on from an older value might move again.
+#[derive(Drop)]
 pub struct Device {
     number: DeviceNo,
     // The highest number that it has heard of.
@@ -95,9 +97,11 @@ impl Device {
         }
     }
 
-    /// The device with these parts, as `number`, `last`, `phase` and `task`, `doing` and `tick` gave them: for a caller
-    /// that keeps the parts in place of the value, as C does.
-    pub fn of(
+    /// The device with these parts, as `number`, `last`, `phase` and `task`, `doing` and `tick` gave them last. It is for
+    /// the door for C alone, where the caller keeps the parts in a struct in place of the value. That caller owes that
+    /// they are the newest, and that no other device goes on from them: with older parts the machine may be ordered to
+    /// move again.
+    pub fn from_kept_parts(
         number: DeviceNo,
         last: u32,
         attempt: Option<Attempt>,
@@ -236,7 +240,7 @@ impl Device {
         self.unheard = false;
     }
 
-    fn place(&self, seq: u32) -> Place
+    pub(crate) fn place(&self, seq: u32) -> Place
         ensures { result ≡ place self.now seq }
     {
         if seq > self.last {
@@ -278,7 +282,7 @@ impl Device {
     }
 
     // The number for which the machine reports: that of the order that it carries out; at rest, the last one.
-    fn reported_for(&self) -> u32
+    pub(crate) fn reported_for(&self) -> u32
         ensures { result ≡ reported_for self.now }
     {
         match self.doing {
@@ -288,7 +292,7 @@ impl Device {
     }
 
     // Whether the machine may report this now.
-    fn is_in_time(&self, told: Told) -> bool
+    pub(crate) fn is_in_time(&self, told: Told) -> bool
         ensures { result ≡ is_in_time told self.now }
     {
         match self.doing {
@@ -338,62 +342,5 @@ impl Device {
             let _ = self.take(cell, task);
             self.unheard = told.waits_for_reply(self.unheard);
         }
-    }
-}
-
-impl Told {
-    /// The number of the attempt.
-    fn seq(self) -> u32
-        ensures { result ≡ told_of self }
-    {
-        match self {
-            Told::Prepared(seq) | Told::Moved(seq) | Told::GaveUp(seq) | Told::Cannot(seq) => seq,
-        }
-    }
-
-    // What it makes of the attempt.
-    fn cell(self, phase: Phase) -> Cell
-        ensures { result ≡ told_in self phase }
-    {
-        match self {
-            Told::Prepared(seq) => prepared_in(seq, phase),
-            Told::Moved(seq) => moved_in(seq, phase),
-            Told::GaveUp(seq) => gave_up_in(seq, phase),
-            Told::Cannot(seq) => cannot_in(seq, phase),
-        }
-    }
-
-    // Whether it is the end of the order.
-    fn ends(self, order: Order) -> bool
-        ensures { result ≡ ends order self }
-    {
-        match (order, self) {
-            (Order::Prepare(p), Told::Prepared(q) | Told::Cannot(q)) => p == q,
-            (Order::Move(p), Told::Moved(q) | Told::Cannot(q)) => p == q,
-            (Order::GiveUp(p), Told::GaveUp(q) | Told::Cannot(q)) => p == q,
-            (Order::Prepare(_), Told::Moved(_) | Told::GaveUp(_)) => false,
-            (Order::Move(_), Told::Prepared(_) | Told::GaveUp(_)) => false,
-            (Order::GiveUp(_), Told::Prepared(_) | Told::Moved(_)) => false,
-        }
-    }
-
-    // Whether an abort waits for its reply from now on.
-    fn waits_for_reply(self, unheard: bool) -> bool
-        ensures { result ≡ unheard_after self unheard }
-    {
-        match self {
-            Told::Prepared(_) | Told::Moved(_) | Told::GaveUp(_) => unheard,
-            Told::Cannot(_) => true,
-        }
-    }
-}
-
-// The order whose end is not reported, once this was reported.
-fn left_after(told: Told, doing: Option<Order>) -> Option<Order>
-    ensures { result ≡ left_after told doing }
-{
-    match doing {
-        Some(order) => { if told.ends(order) { None } else { Some(order) } }
-        None => None,
     }
 }

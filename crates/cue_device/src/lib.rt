@@ -26,23 +26,30 @@
 //! - The machine reports without a number: it does one order at a time, and a number beside it could only be a wrong
 //!   one. One field has the order whose end is not reported, whatever the attempt: so a new number is aborted while the
 //!   machine still does what an earlier one asked for.
+//! - The value is neither copied nor cloned, and each call that changes it takes it by `&mut`: the laws speak of one
+//!   device that goes on from where it was, and one that went on from an older value might move twice. `foresee` tells
+//!   what would come of an order without a second value.
 //! - A report at a wrong time is an error, and changes nothing: it shows a fault of the maker's loop.
 #![tactic(auto)]
 
 mod asked;
 mod fields;
+mod foreseeing;
 mod hearing;
 pub mod laws;
 mod over_bytes;
 mod phase;
 mod reading;
+mod reports;
 mod table;
 mod words;
 mod writing;
 
 pub use asked::{Command, PartBytes, Task};
 pub use hearing::{Device, Heard, ReportFault};
+pub use over_bytes::Meaning;
 pub use phase::{Attempt, Phase};
 pub use reading::{MAX_NUMBER, command};
+pub use reports::Report;
 pub use words::{Answer, Order};
 pub use writing::{MAX_ANSWER, write};

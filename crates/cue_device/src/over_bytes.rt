@@ -1,9 +1,11 @@
 //! A device over bytes: a datagram in, an order and a datagram out.
 ghost use Rattle.std.specs.Prelude.{◌≡◌, ◌≤◌, ◌↔◌, IsTrue, take};
 ghost use Rattle.cue_device.specs.Datagrams.{HearsDatagram, IsReply, answered_text};
+ghost use Rattle.cue_device.specs.Meanings.{Means, after_meaning, comes_of};
 
+use crate::asked::Command;
 use crate::fields::after;
-use crate::hearing::Device;
+use crate::hearing::{Device, Heard};
 use crate::reading::command;
 use crate::words::{Answer, Order};
 use crate::writing::{MAX_ANSWER, write, write_address};
@@ -11,6 +13,35 @@ use cue_show::DeviceNo;
 
 /// How a reply of the controller begins: its address, and its type tag string.
 const REPLY: [u8; 16] = *b"/reply\0\0,siiii\0\0";
+
+/// What a datagram is to a device.
+#[derive(Clone, Copy, PartialEq, Eq, Debug)]
+pub enum Meaning {
+    /// An order of the controller for it.
+    Order(Command),
+    /// A reply of the controller to an abort of it.
+    Reply,
+    /// Neither: the device does not hear it.
+    Nothing,
+}
+
+impl Meaning {
+    /// What a datagram is to the device of this number.
+    pub fn of(datagram: &[u8], number: DeviceNo) -> Meaning
+        ensures { Means number datagram.now result }
+    {
+        match command(datagram, number) {
+            Some(command) => Meaning::Order(command),
+            None => {
+                if is_reply(datagram, number) {
+                    Meaning::Reply
+                } else {
+                    Meaning::Nothing
+                }
+            }
+        }
+    }
+}
 
 impl Device {
     /// A datagram came. The order, if there is one, is carried out at once; the bytes of `out` up to the length that
@@ -24,18 +55,34 @@ impl Device {
         ensures heard { HearsDatagram datagram.now self.old self.new result.0 (take result.1 out.new) }
         ensures short { result.1 ≤ 32 }
     {
-        match command(datagram, self.number()) {
-            Some(command) => {
+        match Meaning::of(datagram, self.number()) {
+            Meaning::Order(command) => {
                 let heard = self.hear(&command);
                 let len = self.write_answer(heard.answer, out);
                 (heard.order, len)
             }
-            None => {
-                if is_reply(datagram, self.number()) {
-                    self.hear_reply();
-                }
+            Meaning::Reply => {
+                self.hear_reply();
                 (None, 0)
             }
+            Meaning::Nothing => (None, 0),
+        }
+    }
+
+    /// A datagram came that is this to the device, by `Meaning::of`. What the machine is ordered is carried out, and the
+    /// answer is sent, at once. Nothing changes if it is nothing.
+    pub fn hear_meaning(&mut self, meaning: &Meaning) -> Heard
+        ensures state { self.new ≡ after_meaning meaning.now self.old }
+        ensures said { result ≡ comes_of meaning.now self.old }
+    {
+        match meaning {
+            Meaning::Order(command) => return self.hear(command),
+            Meaning::Reply => self.hear_reply(),
+            Meaning::Nothing => {}
+        }
+        Heard {
+            order: None,
+            answer: None,
         }
     }
 

@@ -73,7 +73,7 @@ impl CueDevice {
             None => None,
         };
         let doing = order_of(self.doing, self.doing_number);
-        Some(Device::of(number, self.last, attempt, doing, self.unheard == 1))
+        Some(Device::from_kept_parts(number, self.last, attempt, doing, self.unheard == 1))
     }
 
     // The numbers that stand for the device. Its last order came from the one place, and it hears the other alone,

@@ -1,14 +1,17 @@
 -- A rehearsed device: how long its machine takes, and what it reports to the device at the end.
-use Rattle.std.specs.Prelude.{ℕ, ◌+◌, ◌-◌, Bool, true, false, Option, Some, None, Result, Ok, Err, nat_le}
+use Rattle.std.specs.Prelude.{◌≡◌, ℕ, ◌+◌, ◌-◌, List, Bool, true, false, Option, Some, None, Result, Ok, Err, nat_le}
 use Rattle.std.specs.Prelude.{if◌then◌else◌}
 use Rattle.cue_device.specs.declared.hearing.Device.{Device}
 use Rattle.cue_device.specs.declared.hearing.Told.{Told}
 use Rattle.cue_device.specs.declared.hearing.Told.TheVariants.{Prepared, Moved, GaveUp, Cannot}
+use Rattle.cue_device.specs.declared.over_bytes.Meaning.{Meaning}
+use Rattle.cue_device.specs.declared.over_bytes.Meaning.TheVariants.{Nothing}
 use Rattle.cue_device.specs.declared.words.Answer.{Answer}
 use Rattle.cue_device.specs.declared.words.Order.{Order}
 use Rattle.cue_device.specs.declared.words.Order.TheVariants.{Prepare, Move, GiveUp}
 use Rattle.cue_device.specs.declared.hearing.ReportFault.{ReportFault}
 use Rattle.cue_device.specs.Hearing.{after_call, answer_call, reported_for}
+use Rattle.cue_device.specs.Meanings.{Means, after_meaning, comes_of}
 use Rattle.cue_rehearsal.specs.declared.manner.Behaviour.{Behaviour}
 use Rattle.cue_rehearsal.specs.declared.manner.Behaviour.TheVariants.{Plays, Silent, Refuses, Fails}
 use Rattle.cue_rehearsal.specs.declared.manner.Manner.{Manner}
@@ -46,6 +49,22 @@ begun m now longer order = record { order = order; since = now; takes = time_for
 abbrev pub work_after : (Order → Work) → Option Order → Option Work → Option Work
 work_after begun None work = work
 work_after begun (Some order) work = Some (begun order)
+
+-- what a datagram is to a device that is played: nothing to a silent one
+abbrev pub IsMeaningBy : Bool → ℕ → List ℕ → Meaning → Type 0
+IsMeaningBy true number datagram meaning = meaning ≡ Nothing
+IsMeaningBy false number datagram meaning = Means number datagram meaning
+
+abbrev pub IsMeaning : Player → List ℕ → Meaning → Type 0
+IsMeaning p datagram meaning = IsMeaningBy (is_silent p.manner.behaviour) p.device.number datagram meaning
+
+-- the device heard this, and its machine begins with what it is ordered
+abbrev pub after_hearing : ℕ → ℕ → Meaning → Player → Player
+after_hearing now longer meaning p = record {
+  device = after_meaning meaning p.device;
+  manner = p.manner;
+  work = work_after (begun p.manner now longer) (comes_of meaning p.device).order p.work;
+}
 
 -- the order whose end has come
 abbrev pub due : ℕ → Option Work → Option Order

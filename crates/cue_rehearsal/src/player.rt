@@ -1,11 +1,12 @@
 //! One rehearsed device: what it hears, and what its machine does meanwhile.
-ghost use Rattle.std.specs.Prelude.{◌≡◌, ◌≤◌, IsTrue, false, None, take};
-ghost use Rattle.cue_device.specs.Datagrams.{HearsDatagram};
-ghost use Rattle.cue_device.specs.Hearing.{answer_ticked, device_at_rest};
-ghost use Rattle.cue_rehearsal.specs.Playing.{after_end, answer_at_end, begun, due, is_silent, player_of, work_after};
+ghost use Rattle.std.specs.Prelude.{◌≡◌};
+ghost use Rattle.cue_device.specs.Hearing.{answer_ticked, device_at_rest, reported_for, told_as};
+ghost use Rattle.cue_device.specs.Meanings.{comes_of};
+ghost use Rattle.cue_rehearsal.specs.Playing.{IsMeaning, after_end, after_hearing, answer_at_end, answer_in, begun};
+ghost use Rattle.cue_rehearsal.specs.Playing.{due, player_of, told_by, work_after};
 
 use crate::manner::Manner;
-use cue_device::{Answer, Device, MAX_ANSWER, Order, ReportFault};
+use cue_device::{Answer, Device, Heard, Meaning, Order, Report, ReportFault};
 use cue_show::DeviceNo;
 
 /// What the machine does.
@@ -18,8 +19,9 @@ pub struct Work {
     pub takes: u64,
 }
 
-/// A device of `cue_device` with a machine that is played. Moments are milliseconds since the rehearsal began.
-#[derive(Clone, Copy)]
+/// A device of `cue_device` with a machine that is played. Moments are milliseconds since the rehearsal began. As its
+/// device it is neither copied nor cloned.
+#[derive(Drop)]
 pub struct Player {
     device: Device,
     manner: Manner,
@@ -53,29 +55,32 @@ impl Player {
         self.work
     }
 
-    /// A datagram came: the order that the machine begins with, and the length of the answer in `out`, 0 if there is
-    /// none. `longer` is how much longer than always the machine takes for what is ordered now, in milliseconds. A
-    /// silent device hears nothing.
-    pub fn hear(
-        &mut self,
-        datagram: &[u8],
-        now: u64,
-        longer: u32,
-        out: &mut [u8; MAX_ANSWER],
-    ) -> (Option<Order>, usize)
-        ensures silent { IsTrue (is_silent self.old.manner.behaviour) → (self.new ≡ self.old) × (result ≡ (None, 0)) }
-        ensures heard { is_silent self.old.manner.behaviour ≡ false
-            → HearsDatagram datagram.now self.old.device self.new.device result.0 (take result.1 out.new) }
-        ensures work { self.new.work ≡ work_after (begun self.old.manner now longer) result.0 self.old.work }
-        ensures manner { self.new.manner ≡ self.old.manner }
-        ensures short { result.1 ≤ 32 }
+    /// What a datagram is to the device. A silent one hears nothing.
+    pub fn meaning(&self, datagram: &[u8]) -> Meaning
+        ensures { IsMeaning self.now datagram.now result }
     {
         if self.manner.behaviour.is_silent() {
-            return (None, 0);
+            return Meaning::Nothing;
         }
-        let (order, len) = self.device.hear_datagram(datagram, out);
-        self.work = self.work_after(order, now, longer);
-        (order, len)
+        Meaning::of(datagram, self.device.number())
+    }
+
+    /// What `hear` would order the machine for this, and what the device would answer. Nothing changes.
+    pub fn foresee(&self, meaning: &Meaning) -> Heard
+        ensures { result ≡ comes_of meaning.now self.now.device }
+    {
+        self.device.foresee(meaning)
+    }
+
+    /// A datagram came that is this to the device: it hears it, and its machine begins with what it is ordered.
+    /// `longer` is how much longer than always the machine takes for that, in milliseconds.
+    pub fn hear(&mut self, meaning: &Meaning, now: u64, longer: u32) -> Heard
+        ensures state { self.new ≡ after_hearing now longer meaning.now self.old }
+        ensures said { result ≡ comes_of meaning.now self.old.device }
+    {
+        let heard = self.device.hear_meaning(meaning);
+        self.work = self.work_after(heard.order, now, longer);
+        heard
     }
 
     /// The order whose end has come.
@@ -94,6 +99,13 @@ impl Player {
         }
     }
 
+    /// What `end` would give for this order. Nothing changes.
+    pub fn foresee_end(&self, order: Order) -> Option<Answer>
+        ensures { result ≡ answer_at_end order self.now }
+    {
+        answer_in(self.device.foresee_report(self.report_at(order)))
+    }
+
     /// The machine has come to the end of an order, that of `due`. It reports to the device, which gives what is
     /// answered.
     pub fn end(&mut self, order: Order) -> Option<Answer>
@@ -101,19 +113,13 @@ impl Player {
         ensures said { result ≡ answer_at_end order self.old }
     {
         self.work = None;
-        let reported = if self.manner.behaviour.breaks_at(order) {
-            self.device.cannot()
-        } else {
-            match order {
-                Order::Prepare(_) => self.device.prepared(),
-                Order::Move(_) => self.device.moved(),
-                Order::GiveUp(_) => self.device.gave_up(),
-            }
+        let reported = match self.report_at(order) {
+            Report::Prepared => self.device.prepared(),
+            Report::Moved => self.device.moved(),
+            Report::GaveUp => self.device.gave_up(),
+            Report::Cannot => self.device.cannot(),
         };
-        match reported {
-            Ok(answer) => answer,
-            Err(ReportFault::NotOrdered) => None,
-        }
+        answer_in(reported)
     }
 
     /// Some four times a second: the abort that nobody asked for, again, until its reply came.
@@ -121,6 +127,20 @@ impl Player {
         ensures { result ≡ answer_ticked self.now.device }
     {
         self.device.tick()
+    }
+
+    // What the machine reports at the end of an order.
+    fn report_at(&self, order: Order) -> Report
+        ensures { told_as result (reported_for self.now.device) ≡ told_by order self.now }
+    {
+        if self.manner.behaviour.breaks_at(order) {
+            return Report::Cannot;
+        }
+        match order {
+            Order::Prepare(_) => Report::Prepared,
+            Order::Move(_) => Report::Moved,
+            Order::GiveUp(_) => Report::GaveUp,
+        }
     }
 
     // What the machine does, once this was ordered.
@@ -135,5 +155,15 @@ impl Player {
             }),
             None => self.work,
         }
+    }
+}
+
+// What a report is answered with; nothing if it was not in time.
+fn answer_in(reported: Result<Option<Answer>, ReportFault>) -> Option<Answer>
+    ensures { result ≡ answer_in reported }
+{
+    match reported {
+        Ok(answer) => answer,
+        Err(ReportFault::NotOrdered) => None,
     }
 }

@@ -1,18 +1,17 @@
 -- What every rehearsal keeps.
-use Rattle.std.proofs.Common.{◌≡◌, ℕ, zero, suc, ◌≤◌, ◌<◌, Bool, true, false, cond, eqb, List, [], ◌∷◌, ◌++◌, length}
+use Rattle.std.proofs.Common.{◌≡◌, ℕ, zero, suc, ◌<◌, Bool, true, false, cond, eqb, List, [], ◌∷◌, ◌++◌, length}
 use Rattle.std.proofs.Common.{map}
-use Rattle.std.proofs.Common.{Option, Some, None, refl, sym, ap, ◌∙◌, subst, arith, append-nil}
+use Rattle.std.proofs.Common.{Option, Some, None, refl, sym, ap, ◌∙◌, subst, arith}
 use Rattle.std.proofs.Common.{true≢false}
 use Rattle.std.specs.Prelude.{Contains, get_or, slice_get}
 use Rattle.std.specs.List.{AllByRecursion}
 use Rattle.std.proofs.lemmas.Bool.{eq-eqb}
 use Rattle.std.proofs.lemmas.Option.{cond_some, none-some, same_Some, slice_get-get_or, slice_get_within}
 use Rattle.cue_machine.specs.declared.address.Address.{Address}
-use Rattle.cue_machine.specs.declared.ears.Input.{Input}
 use Rattle.cue_machine.specs.declared.ears.Input.TheVariants as input
 use Rattle.cue_machine.specs.declared.post.Output.{Output}
 use Rattle.cue_machine.specs.declared.post.Output.TheVariants as output
-use Rattle.cue_machine.specs.Living.{AreTurns, IsTurn, Turn}
+use Rattle.cue_machine.specs.Living.{Turn}
 use Rattle.cue_machine.specs.Posting.{Given, given_as, given_of}
 use Rattle.cue_device.specs.declared.hearing.Device.{Device}
 use Rattle.cue_device.specs.declared.words.Answer.{Answer}
@@ -20,8 +19,7 @@ use Rattle.cue_device.specs.declared.words.Answer.TheVariants.{Abort}
 use Rattle.cue_device.specs.declared.words.Order.{Order}
 use Rattle.cue_device.specs.declared.words.Order.TheVariants.{Move}
 use Rattle.cue_device.specs.Datagrams.{answer_text, answered_text}
-use Rattle.cue_device.specs.Hearing.{device_at_rest}
-use Rattle.cue_device.specs.Histories.{Happening, KeepsNumber, KeepsNumbers, answer_to, device_after, hears}
+use Rattle.cue_device.specs.Histories.{Happening, KeepsNumber, KeepsNumbers, answer_to, hears}
 use Rattle.cue_device.specs.Histories.{hears_reply}
 use Rattle.cue_device.specs.Histories.{orders_of, repeats, restarts, tells}
 use Rattle.cue_device.proofs.HistoryLemmas.{all_lawful}
@@ -33,10 +31,9 @@ use Rattle.cue_rehearsal_machine.specs.declared.seat.Due.TheVariants.{Ends, Repe
 use Rattle.cue_rehearsal_machine.specs.declared.seat.Seat.{Seat}
 use Rattle.cue_rehearsal_machine.specs.Deeds.{Deed, State, happening_at, heard_at, idle, loses, passes_at, state_of}
 use Rattle.cue_rehearsal_machine.specs.Laws.{Answers, HadTurns, KeepsTheTable, MovesOnce, Ordered, SendsOnlyAnswers}
-use Rattle.cue_rehearsal_machine.specs.Laws.{device_of, history_in, history_of}
-use Rattle.cue_rehearsal_machine.specs.Lives.{rehearsal_machine}
-use Rattle.cue_rehearsal_machine.specs.Seats.{IsHeard, IsHeardBy, answer_passed, answered_at, due_of, what_passes}
-use Rattle.cue_rehearsal_machine.specs.Steps.{Gives, GivesOf, IsPrinted, Outcome, goes_out, heard_outcome}
+use Rattle.cue_rehearsal_machine.specs.Laws.{device_of, history_in}
+use Rattle.cue_rehearsal_machine.specs.Seats.{IsHeardBy, answer_passed, answered_at, due_of}
+use Rattle.cue_rehearsal_machine.specs.Steps.{Gives, GivesOf, Outcome, goes_out, heard_outcome}
 use Rattle.cue_rehearsal_machine.specs.Steps.{passed_outcome, sent_given}
 use Rattle.cue_rehearsal_machine.proofs.LifeLemmas.{Facts, NoRestart, Stands, doing_due, facts, number_now, ordered_due}
 use Rattle.cue_rehearsal_machine.proofs.LifeLemmas.{ordered_now, ordered_unheard, same_length, sits}

@@ -1,18 +1,17 @@
 -- How a device stands after the turns of a rehearsal.
-use Rattle.std.proofs.Common.{◌≡◌, ◌≢◌, ℕ, zero, suc, ◌≤◌, ◌<◌, ◌==◌, Bool, true, false, cond, eqb, List, [], ◌∷◌, ◌++◌}
-use Rattle.std.proofs.Common.{length, map, Option, Some, None, refl, sym, ap, ◌∙◌, subst, arith, append_assoc}
+use Rattle.std.proofs.Common.{◌≡◌, ℕ, Bool, true, false, cond, eqb, List, [], ◌∷◌, ◌++◌}
+use Rattle.std.proofs.Common.{length, map, Option, Some, None, refl, sym, ap, ◌∙◌, subst, append_assoc}
 use Rattle.std.proofs.Common.{append-nil}
 use Rattle.std.proofs.Common.{⊎_elim}
 use Rattle.std.proofs.Common.{true≢false}
 use Rattle.std.specs.Prelude.{is_some, slice_get, slice_set, ⊤}
 use Rattle.std.specs.List.{AllByRecursion}
 use Rattle.std.proofs.lemmas.Bool.{eqb-true, eqb-false}
-use Rattle.std.proofs.lemmas.Option.{none-some, same_Some, slice_get_within}
+use Rattle.std.proofs.lemmas.Option.{none-some, same_Some}
 use Rattle.cue_machine.specs.declared.address.Address.{Address}
 use Rattle.cue_machine.specs.declared.ears.Input.{Input}
 use Rattle.cue_machine.specs.declared.ears.Input.TheVariants as input
 use Rattle.cue_machine.specs.declared.post.Output.{Output}
-use Rattle.cue_machine.specs.Hearing.{Heard}
 use Rattle.cue_machine.specs.Living.{AreTurns, IsTurn, Turn, after_losses}
 use Rattle.cue_machine.specs.Posting.{Posted}
 use Rattle.cue_device.specs.declared.asked.Command.{Command}
@@ -34,11 +33,11 @@ use Rattle.cue_rehearsal_machine.specs.Deeds.{loses, passes_at, state_of}
 use Rattle.cue_rehearsal.specs.Drawing.{is_lost}
 use Rattle.cue_rehearsal_machine.specs.Laws.{IsFresh, IsNew, Ordered, deeds_of, device_of, history_from}
 use Rattle.cue_rehearsal_machine.specs.Lives.{rehearsal_machine}
-use Rattle.cue_rehearsal_machine.specs.Seats.{IsHeard, IsHeardBy, due_of, due_or, ordered_at, ordered_by, repeats_of}
-use Rattle.cue_rehearsal_machine.specs.Seats.{seat_heard, seat_in, seat_of, seat_passed, what_passes}
+use Rattle.cue_rehearsal_machine.specs.Seats.{IsHeard, IsHeardBy, due_of, due_or, ordered_by, repeats_of}
+use Rattle.cue_rehearsal_machine.specs.Seats.{seat_heard, seat_in, seat_passed, what_passes}
 use Rattle.cue_rehearsal_machine.specs.Steps.{after_loss, left_after, longer_of}
 use Rattle.cue_rehearsal_machine.proofs.SeatLemmas.{all_at, set_length, set_other, set_same}
-use Rattle.cue_rehearsal_machine.proofs.TableLemmas.{device_what, doing_heard, ended, ended_doing, number_history}
+use Rattle.cue_rehearsal_machine.proofs.TableLemmas.{doing_heard, ended, ended_doing, number_history}
 use Rattle.cue_rehearsal_machine.proofs.TableLemmas.{order_in, unheard_heard, work_heard}
 
 -- ---- who ordered

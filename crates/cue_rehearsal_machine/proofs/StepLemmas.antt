@@ -1,8 +1,8 @@
 -- What a step gives, and what is left after it.
-use Rattle.std.proofs.Common.{◌≡◌, ℕ, ◌<◌, ◌≤◌, Bool, true, false, List, [], Option, Some, None, refl, sym, ap, ◌∙◌}
+use Rattle.std.proofs.Common.{◌≡◌, ℕ, ◌<◌, ◌≤◌, Bool, true, false, List, [], Option, Some, refl, sym, ap, ◌∙◌}
 use Rattle.std.proofs.Common.{subst}
-use Rattle.std.proofs.Common.{inl, inr, ⊎_elim, length, take}
-use Rattle.std.specs.Prelude.{IsTrue, OnOk, Result, Ok, Err, get_or, is_some, slice_get}
+use Rattle.std.proofs.Common.{inl, inr, length}
+use Rattle.std.specs.Prelude.{OnOk, Result, Ok, Err, get_or, is_some, slice_get}
 use Rattle.std.proofs.lemmas.Option.{same_Some, slice_get_past, slice_get_read, slice_get_within}
 use Rattle.cue_machine.specs.declared.address.Address.{Address}
 use Rattle.cue_machine.specs.declared.ears.Input.TheVariants as input
@@ -11,110 +11,57 @@ use Rattle.cue_machine.specs.Posting.{Given}
 use Rattle.cue_device.specs.declared.hearing.Device.{Device}
 use Rattle.cue_device.specs.declared.words.Answer.{Answer}
 use Rattle.cue_device.specs.declared.words.Order.{Order}
-use Rattle.cue_device.specs.Datagrams.{HearsCommand, HearsDatagram, HearsReply, Ignores, answered_text}
-use Rattle.cue_device.specs.Histories.{Happening, hears, hears_reply}
+use Rattle.cue_device.specs.declared.over_bytes.Meaning.{Meaning}
+use Rattle.cue_device.specs.declared.over_bytes.Meaning.TheVariants as meaning
+use Rattle.cue_device.specs.Datagrams.{answered_text}
+use Rattle.cue_device.specs.Meanings.{comes_of}
+use Rattle.cue_device.specs.Histories.{Happening}
 use Rattle.cue_rehearsal.specs.declared.chance.Chance.{Chance}
-use Rattle.cue_rehearsal.specs.declared.manner.Manner.{Manner}
 use Rattle.cue_rehearsal.specs.declared.player.Player.{Player}
-use Rattle.cue_rehearsal.specs.declared.player.Work.{Work}
-use Rattle.cue_rehearsal.specs.Drawing.{is_lost, next, up_to}
-use Rattle.cue_rehearsal.specs.Playing.{begun, is_silent, work_after}
+use Rattle.cue_rehearsal.specs.Drawing.{is_lost, next}
+use Rattle.cue_rehearsal.specs.Playing.{IsMeaning, IsMeaningBy, after_hearing, is_silent}
 use Rattle.cue_rehearsal_machine.specs.declared.seat.Due.{Due}
 use Rattle.cue_rehearsal_machine.specs.declared.seat.Seat.{Seat}
 use Rattle.cue_rehearsal_machine.specs.Deeds.{IsArrival, IsDue, IsHearing, NothingDue, State, heard_at, idle, loses}
 use Rattle.cue_rehearsal_machine.specs.Deeds.{passes_at}
-use Rattle.cue_rehearsal_machine.specs.Seats.{Hears, IsHeardBy, after_what, answer_passed, answered_at, ordered_at}
-use Rattle.cue_rehearsal_machine.specs.Seats.{ordered_by, seat_heard, seat_passed}
-use Rattle.cue_rehearsal_machine.specs.Steps.{IsPrinted, Steps, after_answer, drawn, goes_out, heard_outcome, is_said}
+use Rattle.cue_rehearsal_machine.specs.Seats.{IsHeard, IsHeardBy, answer_passed, answered_at, ordered_at}
+use Rattle.cue_rehearsal_machine.specs.Seats.{ordered_by, seat_heard, seat_passed, what_of}
+use Rattle.cue_rehearsal_machine.specs.Steps.{IsGiven, IsPrinted, Steps, after_answer, drawn, goes_out, is_said}
 use Rattle.cue_rehearsal_machine.specs.Steps.{longer_of, sent_given, settled}
 
--- ---- what a device heard
+-- ---- what a device hears
 
-player_is : (p : Player) (d : Device) (m : Manner) (w : Option Work) → p.device ≡ d → p.manner ≡ m → p.work ≡ w
-    → p ≡ record { device = d; manner = m; work = w }
-player_is p d m w e f g =
-    ap (λ (x : Device). record { device = x; manner = p.manner; work = p.work }) e
-    ∙ (ap (λ (x : Manner). record { device = d; manner = x; work = p.work }) f
-    ∙ ap (λ (x : Option Work). record { device = d; manner = m; work = x }) g)
+heard_by : (silent : Bool) (n : ℕ) (bytes : List ℕ) (m : Meaning) → IsMeaningBy silent n bytes m
+    → IsHeardBy silent n bytes (what_of m)
+heard_by true n bytes m h = ap what_of h
+heard_by false n bytes (meaning.Order c) h = h
+heard_by false n bytes meaning.Reply h = h
+heard_by false n bytes meaning.Nothing h = h
 
-hears_what : (s : Seat) (now longer : ℕ) (from : Address) (bytes sent : List ℕ) (p : Player) (order : Option Order)
-    (what : Option Happening)
-    → IsHeardBy (is_silent s.player.manner.behaviour) s.player.device.number bytes what
-    → p.device ≡ after_what what s.player.device → order ≡ ordered_at what s.player.device
-    → sent ≡ answered_text s.player.device.number (answered_at what s.player.device)
-    → p.work ≡ work_after (begun s.player.manner now longer) order s.player.work → p.manner ≡ s.player.manner
-    → Hears now longer from bytes s order sent
-    (record { player = p; controller = ordered_by from order s.controller; said = s.said })
-hears_what s now longer from bytes sent p order what h d o a w m =
-    let works : Option Order → Option Work =
-    λ x. work_after (begun s.player.manner now longer) x s.player.work in
-    let played : Player = record {
-      device = after_what what s.player.device;
-      manner = s.player.manner;
-      work = works (ordered_at what s.player.device);
-    } in
-    let is : p ≡ played = player_is p _ _ _ d m (w ∙ ap works o) in
-    record {
-      what = what;
-      heard = h;
-      ordered = o;
-      answered = a;
-      left = ap (λ (x : Player). record {
-        player = x;
-        controller = ordered_by from order s.controller;
-        said = s.said;
-      }) is
-          ∙ ap (λ (x : Option Order). record {
-            player = played;
-            controller = ordered_by from x s.controller;
-            said = s.said;
-          }) o;
-    }
+-- what a datagram means to a player happens to it
+pub is_heard : (p : Player) (bytes : List ℕ) (m : Meaning) → IsMeaning p bytes m → IsHeard p bytes (what_of m)
+is_heard p bytes m h = heard_by (is_silent p.manner.behaviour) p.device.number bytes m h
 
--- what a player heard is what happened to it
-hears_by : (s : Seat) (now longer : ℕ) (from : Address) (bytes out : List ℕ) (p : Player) (order : Option Order)
-    (n : ℕ) (silent : Bool) → is_silent s.player.manner.behaviour ≡ silent
-    → (IsTrue (is_silent s.player.manner.behaviour)
-    → (p ≡ s.player) × (◌≡◌ {A = Option Order × ℕ} (order, n) (None, 0)))
-    → (is_silent s.player.manner.behaviour ≡ false
-    → HearsDatagram bytes s.player.device p.device order (take n out))
-    → p.work ≡ work_after (begun s.player.manner now longer) order s.player.work → p.manner ≡ s.player.manner
-    → Hears now longer from bytes s order (take n out)
-    (record { player = p; controller = ordered_by from order s.controller; said = s.said })
-hears_by s now longer from bytes out p order n true e f g w m =
-    let none = f e in
-    hears_what s now longer from bytes (take n out) p order None
-    (subst (λ (b : Bool). IsHeardBy b s.player.device.number bytes None) (sym e) refl)
-    (ap (λ (x : Player). x.device) none.0) (ap (λ (x : Option Order × ℕ). x.0) none.1)
-    (ap (λ (x : Option Order × ℕ). take x.1 out) none.1) w m
-hears_by s now longer from bytes out p order n false e f g w m =
-    let d : Device = s.player.device in
-    let meant : (what : Option Happening) → IsHeardBy false d.number bytes what
-    → IsHeardBy (is_silent s.player.manner.behaviour) d.number bytes what =
-    λ what h. subst (λ (b : Bool). IsHeardBy b d.number bytes what) (sym e) h in
-    ⊎_elim
-    (λ (h : HearsCommand bytes d p.device order (take n out)).
-    hears_what s now longer from bytes (take n out) p order (Some (hears h.command))
-    (meant (Some (hears h.command)) h.is_for) h.state h.ordered h.answered w m)
-    (⊎_elim
-    (λ (h : HearsReply bytes d p.device order (take n out)).
-    hears_what s now longer from bytes (take n out) p order (Some hears_reply)
-    (meant (Some hears_reply) h.is_reply) h.state h.ordered h.answered w m)
-    (λ (h : Ignores bytes d p.device order (take n out)).
-    hears_what s now longer from bytes (take n out) p order None (meant None (h.no_command, h.no_reply))
-    h.state h.ordered h.answered w m)) (g e)
+pub ordered_what : (m : Meaning) (d : Device) → (comes_of m d).order ≡ ordered_at (what_of m) d
+ordered_what (meaning.Order c) d = refl
+ordered_what meaning.Reply d = refl
+ordered_what meaning.Nothing d = refl
 
-pub hears_all : (s : Seat) (now longer : ℕ) (from : Address) (bytes out : List ℕ) (p : Player) (order : Option Order)
-    (n : ℕ)
-    → (IsTrue (is_silent s.player.manner.behaviour)
-    → (p ≡ s.player) × (◌≡◌ {A = Option Order × ℕ} (order, n) (None, 0)))
-    → (is_silent s.player.manner.behaviour ≡ false
-    → HearsDatagram bytes s.player.device p.device order (take n out))
-    → p.work ≡ work_after (begun s.player.manner now longer) order s.player.work → p.manner ≡ s.player.manner
-    → Hears now longer from bytes s order (take n out)
-    (record { player = p; controller = ordered_by from order s.controller; said = s.said })
-hears_all s now longer from bytes out p order n f g w m =
-    hears_by s now longer from bytes out p order n (is_silent s.player.manner.behaviour) refl f g w m
+pub answered_what : (m : Meaning) (d : Device) → (comes_of m d).answer ≡ answered_at (what_of m) d
+answered_what (meaning.Order c) d = refl
+answered_what meaning.Reply d = refl
+answered_what meaning.Nothing d = refl
+
+-- the seat of a player that heard it
+pub seat_is : (s : Seat) (now longer : ℕ) (from : Address) (m : Meaning)
+    → (record {
+      player = after_hearing now longer m s.player;
+      controller = ordered_by from (comes_of m s.player.device).order s.controller;
+      said = s.said;
+    }) ≡ seat_heard now longer from (what_of m) s
+seat_is s now longer from (meaning.Order c) = refl
+seat_is s now longer from meaning.Reply = refl
+seat_is s now longer from meaning.Nothing = refl
 
 -- ---- steps
 
@@ -131,32 +78,37 @@ lost_step s now at from bytes seat given s_then e lost g h = record {
 }
 
 -- it is heard
-pub heard_step : (s : State) (now longer at : ℕ) (from : Address) (bytes sent : List ℕ) (seat seat_then : Seat)
-    (order : Option Order) (says : Bool) (chance : Chance) (given : List Given) (s_then : State)
+pub heard_step : (s : State) (now longer at : ℕ) (from : Address) (bytes : List ℕ) (seat seat_then : Seat)
+    (what : Option Happening) (order : Option Order) (answer : Option Answer) (says : Bool) (chance : Chance)
+    (given : List Given) (s_then : State)
     → slice_get s.seats at ≡ Some seat → is_lost s.loss s.chance ≡ false → longer ≡ longer_of s
-    → chance ≡ next (next s.chance) → Hears now longer from bytes seat order sent seat_then → says ≡ is_some order
-    → IsPrinted says (sent_given at from sent (goes_out s.loss chance sent)) given
-    → s_then ≡ settled s at seat_then (after_answer chance sent)
+    → chance ≡ next (next s.chance) → IsHeard seat.player bytes what
+    → order ≡ ordered_at what seat.player.device → answer ≡ answered_at what seat.player.device
+    → seat_then ≡ seat_heard now longer from what seat → says ≡ is_some order
+    → IsGiven at from (answered_text seat.player.device.number answer) s.loss chance says given
+    → s_then ≡ settled s at seat_then (after_answer chance (answered_text seat.player.device.number answer))
     → Steps s (heard_as now (input.Datagram at from) bytes) given s_then
-heard_step s now longer at from bytes sent seat seat_then order says chance given s_then e lost l c h o g f =
+heard_step s now longer at from bytes seat seat_then what order answer says chance given s_then e lost l c h o a t
+    p g f =
     let d : Device = seat.player.device in
-    let text : List ℕ = answered_text d.number (answered_at h.what d) in
+    let text : Option Answer → List ℕ = λ x. answered_text d.number x in
     let two : Chance = next (next s.chance) in
     record {
-      deed = heard_at at seat from h.what;
-      happens = subst (λ (o : Option Seat). IsArrival s at from bytes o (heard_at at seat from h.what)) (sym e)
-          (subst (λ (b : Bool). IsHearing b at seat from bytes (heard_at at seat from h.what)) (sym lost)
-          (h.what, h.heard, refl));
-      gave = subst (λ (x : Bool). IsPrinted x (sent_given at from text (goes_out s.loss two text)) given)
-          (o ∙ ap (λ (x : Option Order). is_some x) h.ordered)
-          (subst (λ (x : List ℕ). IsPrinted says (sent_given at from x (goes_out s.loss two x)) given) h.answered
-          (subst (λ (x : Chance). IsPrinted says (sent_given at from sent (goes_out s.loss x sent)) given) c g));
+      deed = heard_at at seat from what;
+      happens = subst (λ (x : Option Seat). IsArrival s at from bytes x (heard_at at seat from what)) (sym e)
+          (subst (λ (b : Bool). IsHearing b at seat from bytes (heard_at at seat from what)) (sym lost)
+          (what, h, refl));
+      gave = subst (λ (x : Bool). IsGiven at from (text (answered_at what d)) s.loss two x given)
+          (p ∙ ap (λ (x : Option Order). is_some x) o)
+          (subst (λ (x : Option Answer). IsGiven at from (text x) s.loss two says given) a
+          (subst (λ (x : Chance). IsGiven at from (text answer) s.loss x says given) c g));
       left = f
-          ∙ (ap (λ (x : Seat). settled s at x (after_answer chance sent))
-          (h.left ∙ ap (λ (x : ℕ). seat_heard now x from h.what seat) l)
-          ∙ (ap (λ (x : Chance). settled s at (seat_heard now (longer_of s) from h.what seat) (after_answer x sent)) c
-          ∙ ap (λ (x : List ℕ). settled s at (seat_heard now (longer_of s) from h.what seat) (after_answer two x))
-          h.answered));
+          ∙ (ap (λ (x : Seat). settled s at x (after_answer chance (text answer)))
+          (t ∙ ap (λ (x : ℕ). seat_heard now x from what seat) l)
+          ∙ (ap (λ (x : Chance). settled s at (seat_heard now (longer_of s) from what seat)
+          (after_answer x (text answer))) c
+          ∙ ap (λ (x : Option Answer). settled s at (seat_heard now (longer_of s) from what seat)
+          (after_answer two (text x))) a));
     }
 
 -- nobody sits there

@@ -1,36 +1,32 @@
 -- What the table of a device keeps: its number, the order that its machine does, and that an abort waits for a reply.
 use Rattle.std.proofs.Common.{◌≡◌, ℕ, Bool, true, false, cond, List, [], ◌∷◌, Option, Some, None, refl, sym, ap, ◌∙◌}
 use Rattle.std.proofs.Common.{true≢false}
-use Rattle.std.specs.Prelude.{is_some, Result, Ok, Err}
+use Rattle.std.specs.Prelude.{is_some, Ok, Err}
 use Rattle.std.proofs.lemmas.Bool.{eq-eqb}
 use Rattle.cue_device.specs.declared.asked.Command.{Command}
 use Rattle.cue_device.specs.declared.hearing.Device.{Device}
 use Rattle.cue_device.specs.declared.hearing.Place.{Place}
 use Rattle.cue_device.specs.declared.hearing.Place.TheVariants.{Over, Same, New}
-use Rattle.cue_device.specs.declared.hearing.ReportFault.{ReportFault}
 use Rattle.cue_device.specs.declared.hearing.ReportFault.TheVariants.{NotOrdered}
 use Rattle.cue_device.specs.declared.hearing.Told.{Told}
 use Rattle.cue_device.specs.declared.hearing.Told.TheVariants.{Prepared, Moved, GaveUp, Cannot}
-use Rattle.cue_device.specs.declared.phase.Attempt.{Attempt}
 use Rattle.cue_device.specs.declared.phase.Phase.{Phase}
 use Rattle.cue_device.specs.declared.phase.Phase.TheVariants.{Preparing, Ready, Moving, Done, LettingGo, LetGo, Failed}
-use Rattle.cue_device.specs.declared.words.Answer.{Answer}
 use Rattle.cue_device.specs.declared.words.Order.{Order}
 use Rattle.cue_device.specs.declared.words.Order.TheVariants.{Prepare, Move, GiveUp}
-use Rattle.cue_device.specs.Hearing.{after_at, after_call, after_cell, after_report, after_told, answer_call}
+use Rattle.cue_device.specs.Hearing.{after_at, after_report, after_told}
 use Rattle.cue_device.specs.Hearing.{answer_told}
 use Rattle.cue_device.specs.Hearing.{doing_after, ends, heard_at, in_time, is_in_time, left_after, number_of}
 use Rattle.cue_device.specs.Hearing.{ordered_for}
-use Rattle.cue_device.specs.Hearing.{place, reported_for, seq_of, told_at, told_in, told_of, unheard_after}
-use Rattle.cue_device.specs.Histories.{Happening, after, device_after, hears, hears_reply, latest, order_at, repeats}
+use Rattle.cue_device.specs.Hearing.{place, seq_of, told_at, told_in, told_of}
+use Rattle.cue_device.specs.Histories.{Happening, after, device_after, hears, hears_reply, latest, repeats}
 use Rattle.cue_device.specs.Histories.{restarts, tells}
-use Rattle.cue_rehearsal.specs.declared.manner.Behaviour.{Behaviour}
 use Rattle.cue_rehearsal.specs.declared.manner.Manner.{Manner}
 use Rattle.cue_rehearsal.specs.declared.player.Player.{Player}
 use Rattle.cue_rehearsal.specs.declared.player.Work.{Work}
 use Rattle.cue_rehearsal.specs.Playing.{after_end, answer_at_end, answer_in, begun, breaks_at, report_of, told_at_end}
 use Rattle.cue_rehearsal.specs.Playing.{told_by, work_after}
-use Rattle.cue_rehearsal_machine.specs.Seats.{after_what, ordered_at}
+use Rattle.cue_rehearsal_machine.specs.Seats.{after_what}
 
 -- ---- its number
 

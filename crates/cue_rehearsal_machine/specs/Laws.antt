@@ -1,5 +1,5 @@
 -- What every rehearsal keeps, whatever comes and in whatever order, and whatever is lost.
-use Rattle.std.specs.Prelude.{◌≡◌, ◌≤◌, ◌-◌, ℕ, false, List, [], ◌∷◌, ◌++◌, Contains, map, Option, Some, slice_get}
+use Rattle.std.specs.Prelude.{◌≡◌, ℕ, false, List, [], ◌∷◌, ◌++◌, Contains, map, Some, slice_get}
 use Rattle.std.specs.List.{AllByRecursion}
 use Rattle.cue_machine.specs.declared.address.Address.{Address}
 use Rattle.cue_machine.specs.declared.ears.Input.TheVariants as input

@@ -4,9 +4,11 @@ use Rattle.std.specs.Prelude.{List, Option}
 use Rattle.std.specs.Prelude.{Some, None}
 use Rattle.cue_machine.specs.declared.address.Address.{Address}
 use Rattle.cue_device.specs.declared.hearing.Device.{Device}
+use Rattle.cue_device.specs.declared.over_bytes.Meaning.{Meaning}
+use Rattle.cue_device.specs.declared.over_bytes.Meaning.TheVariants as meaning
 use Rattle.cue_device.specs.declared.words.Answer.{Answer}
 use Rattle.cue_device.specs.declared.words.Order.{Order}
-use Rattle.cue_device.specs.Datagrams.{IsFor, IsForNone, IsReply, answered_text}
+use Rattle.cue_device.specs.Datagrams.{IsFor, IsForNone, IsReply}
 use Rattle.cue_device.specs.Hearing.{answer_ticked, device_at_rest}
 use Rattle.cue_device.specs.Histories.{Happening, after, answer_to, hears, hears_reply, order_at, repeats, restarts}
 use Rattle.cue_device.specs.Histories.{tells}
@@ -55,6 +57,12 @@ IsMeant n bytes (Some (tells t)) = ⊥
 IsMeant n bytes (Some repeats) = ⊥
 IsMeant n bytes (Some (restarts k)) = ⊥
 
+-- what happens to a device that hears a datagram which means this
+abbrev pub what_of : Meaning → Option Happening
+what_of (meaning.Order c) = Some (hears c)
+what_of meaning.Reply = Some hears_reply
+what_of meaning.Nothing = None
+
 -- what it is to a device that is played: nothing to a silent one
 abbrev pub IsHeardBy : Bool → ℕ → List ℕ → Option Happening → Type 0
 IsHeardBy true n bytes what = what ≡ None
@@ -79,15 +87,6 @@ seat_heard now longer from what s = record {
   controller = ordered_by from (ordered_at what s.player.device) s.controller;
   said = s.said;
 }
-
--- it heard this datagram: its machine begins with the order, and this is sent
-pub record Hears (now longer : ℕ) (from : Address) (bytes : List ℕ) (s : Seat) (order : Option Order) (sent : List ℕ)
-    (s_then : Seat) : Type 0 where
-  pub what : Option Happening
-  pub heard : IsHeard s.player bytes what
-  pub ordered : order ≡ ordered_at what s.player.device
-  pub answered : sent ≡ answered_text s.player.device.number (answered_at what s.player.device)
-  pub left : s_then ≡ seat_heard now longer from what s
 
 -- ---- time
 

@@ -65,6 +65,10 @@ pub record IsPrinted (says : Bool) (given given_then : List Given) : Type 0 wher
   pub text : List ℕ
   pub printed : given_then ≡ given ++ (if says then given_as output.Print text ∷ [] else [])
 
+-- all that is given of a device: its answer, unless it is drawn to be lost, and the line on it
+abbrev pub IsGiven : ℕ → Address → List ℕ → ℕ → Chance → Bool → List Given → Type 0
+IsGiven by to bytes loss chance says given = IsPrinted says (sent_given by to bytes (goes_out loss chance bytes)) given
+
 -- ---- what a turn makes of a device
 
 -- The device at its socket after a turn, to whom it answers what, whether a line is printed, and the draws from there.
@@ -102,7 +106,7 @@ passed_outcome s now seat due = record {
 
 -- what is given then: the answer unless it is lost, and the line
 abbrev pub GivesOf : State → ℕ → Outcome → List Given → Type 0
-GivesOf s place o given = IsPrinted o.says (sent_given place o.to o.bytes (goes_out s.loss o.chance o.bytes)) given
+GivesOf s place o given = IsGiven place o.to o.bytes s.loss o.chance o.says given
 
 -- the device of this place has become so, and so much is drawn
 abbrev pub settled : State → ℕ → Seat → Chance → State

@@ -8,6 +8,8 @@
 //! Why it is so:
 //! - At a wake one device has its turn. If something is due of another the machine is woken again at once: so a turn is
 //!   small, and one for which there is no memory has changed nothing.
+//! - A device is never copied. What it would answer is asked first, and it hears the datagram once there was room for
+//!   that: so a turn for which there is no memory has changed nothing.
 //! - Draws are a value that is copied: those of a turn for which there is no memory are not used up.
 //! - An answer that nobody asked for goes to who sent the order that the machine began with last, and not to who sent
 //!   any datagram last: a stranger gets no answer but to orders of his own.

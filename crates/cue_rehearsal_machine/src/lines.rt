@@ -3,28 +3,40 @@ ghost use Rattle.std.specs.Prelude.{◌≡◌, ◌++◌, OnOk, is_some};
 ghost use Rattle.cue_rehearsal_machine.specs.Steps.{IsPrinted, is_abort, is_said, sent_given};
 
 use crate::seat::Due;
-use cue_device::{Answer, Order};
+use cue_device::{Answer, Meaning, Order, Task};
 use cue_machine::{Address, Output, Outputs};
 use cue_rehearsal::{Deed, Line, Player};
 use std::alloc::{AllocError, Global};
 
-// The line on a device that does this.
-fn line_of(player: &Player, deed: Deed) -> Line {
-    let device = player.device();
-    let cue = device.task().map(|task| task.cue);
+// The line on a device that does this, in the cue of this task.
+fn line_of(player: &Player, task: Option<Task>, deed: Deed) -> Line {
+    let cue = task.map(|task| task.cue);
     Line {
         cue,
-        device: device.number(),
+        device: player.device().number(),
         deed,
     }
 }
 
-/// The line on a device whose machine begins with an order.
-pub fn order_line(player: &Player, order: Option<Order>) -> Option<Line>
+// What an order to the machine is for: it prepares for the task that came, and all else is for the one that is known.
+fn ordered_task(player: &Player, meaning: &Meaning, order: Order) -> Option<Task> {
+    match (order, meaning) {
+        (Order::Prepare(_), Meaning::Order(command)) => command.task(),
+        (Order::Prepare(_), Meaning::Reply | Meaning::Nothing) => None,
+        (Order::Move(_) | Order::GiveUp(_), _) => player.device().task(),
+    }
+}
+
+/// The line on a device whose machine is to begin with this order, to what came.
+pub fn order_line(player: &Player, meaning: &Meaning, order: Option<Order>) -> Option<Line>
     ensures { is_some result ≡ is_some order }
 {
     match order {
-        Some(order) => Some(line_of(player, Deed::of_order(order))),
+        Some(order) => Some(line_of(
+            player,
+            ordered_task(player, meaning, order),
+            Deed::of_order(order),
+        )),
         None => None,
     }
 }
@@ -57,7 +69,7 @@ pub fn passed_line(player: &Player, due: Due, answer: Option<Answer>) -> Option<
     ensures { is_some result ≡ is_said due answer }
 {
     if is_said(due, answer) {
-        Some(line_of(player, Deed::Aborts))
+        Some(line_of(player, player.device().task(), Deed::Aborts))
     } else {
         None
     }

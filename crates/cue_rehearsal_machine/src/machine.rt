@@ -1,5 +1,6 @@
 //! The rehearsal as a machine.
 ghost use Rattle.std.specs.Prelude.{◌≡◌, ◌<◌, [], Some, IfOk, MatchOption, OnErr, OnOk, is_some, length, slice_get};
+ghost use Rattle.cue_device.specs.Datagrams.{answered_text};
 ghost use Rattle.cue_machine.specs.Hearing.{heard_as};
 ghost use Rattle.cue_machine.specs.declared.ears.Input.TheVariants as input;
 ghost use Rattle.cue_rehearsal_machine.specs.Deeds.{IsDue, NothingDue, state_of};
@@ -9,9 +10,9 @@ ghost use Rattle.cue_rehearsal_machine.specs.Steps.{IsPrinted};
 
 use crate::lines::{order_line, passed_line, push_answer, push_line};
 use crate::seat::{Due, Role, Seat, earlier, seats_of};
-use cue_device::MAX_ANSWER;
+use cue_device::{Answer, MAX_ANSWER};
 use cue_machine::{Address, Input, Machine, Output, Outputs};
-use cue_rehearsal::{Chance, Line};
+use cue_rehearsal::{Chance, Line, Player};
 use std::alloc::{AllocError, Global};
 
 /// Rehearsed devices, each at the place of its socket, and what is left to chance.
@@ -116,34 +117,26 @@ impl RehearsalMachine {
         })
     }
 
-    // The device of this place has become so; what it answers is drawn from here on.
-    fn settle(
-        &mut self,
+    // What a device of this place answers, and the line on it, are given; the draws go on.
+    fn give(
+        &self,
         at: usize,
-        seat: Seat,
+        player: &Player,
         to: Address,
-        mut chance: Chance,
-        answer: &[u8],
+        answer: Option<Answer>,
+        chance: &mut Chance,
         line: Option<Line>,
         out: &mut Outputs,
     ) -> Result<(), AllocError>
         requires empty { out.old ≡ [] }
-        requires within { at < length self.old.seats.items }
-        ensures given { OnOk result (IsPrinted (is_some line)
-            (step.sent_given at to answer.now (step.goes_out self.old.loss chance answer.now)) out.new) }
-        ensures left { OnOk result (state_of self.new
-            ≡ step.settled (state_of self.old) at seat (step.after_answer chance answer.now)) }
-        ensures err { OnErr result (self.new ≡ self.old) }
+        ensures given { OnOk result (step.IsGiven at to (answered_text player.now.device.number answer) self.now.loss
+            chance.old (is_some line) out.new) }
+        ensures drawn { chance.new ≡ step.after_answer chance.old (answered_text player.now.device.number answer) }
     {
-        let goes = goes_out(&mut chance, self.loss, answer);
-        match push_all(self.alloc, out, at, to, answer, goes, line) {
-            Ok(()) => {
-                self.seats[at] = seat;
-                self.chance = chance;
-                Ok(())
-            }
-            Err(AllocError) => Err(AllocError),
-        }
+        let mut text = [0; MAX_ANSWER];
+        let len = player.device().write_answer(answer, &mut text);
+        let goes = goes_out(chance, self.loss, &text[..len]);
+        push_all(self.alloc, out, at, to, &text[..len], goes, line)
     }
 
     // A datagram came to the device of this place.
@@ -168,11 +161,14 @@ impl RehearsalMachine {
             return Ok(());
         }
         let longer = chance.up_to(self.spread);
-        let mut seat = self.seats[at];
-        let mut answer = [0; MAX_ANSWER];
-        let (order, len) = seat.hear(now, longer, from, bytes, &mut answer);
-        let line = order_line(&seat.player, order);
-        self.settle(at, seat, from, chance, &answer[..len], line, out)
+        let seat = &self.seats[at];
+        let meaning = seat.player.meaning(bytes);
+        let heard = seat.player.foresee(&meaning);
+        let line = order_line(&seat.player, &meaning, heard.order);
+        self.give(at, &seat.player, from, heard.answer, &mut chance, line, out)?;
+        self.seats[at].hear(now, longer, from, &meaning);
+        self.chance = chance;
+        Ok(())
     }
 
     // This is due of the device of this place.
@@ -189,21 +185,22 @@ impl RehearsalMachine {
             (state_of self.new)) }
         ensures err { OnErr result (self.new ≡ self.old) }
     {
-        let before = self.seats[at];
-        let mut seat = before;
-        let answer = seat.pass(due, now);
-        let mut bytes = [0; MAX_ANSWER];
-        let len = before.player.device().write_answer(answer, &mut bytes);
+        let mut chance = self.chance;
+        let seat = &self.seats[at];
+        let answer = seat.foresee(due);
         let line = passed_line(&seat.player, due, answer);
-        self.settle(
+        self.give(
             at,
-            seat,
-            before.controller,
-            self.chance,
-            &bytes[..len],
+            &seat.player,
+            seat.controller,
+            answer,
+            &mut chance,
             line,
             out,
-        )
+        )?;
+        self.seats[at].pass(due, now);
+        self.chance = chance;
+        Ok(())
     }
 
     // It was woken: a device of which something is due has its turn.

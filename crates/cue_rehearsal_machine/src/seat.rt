@@ -1,13 +1,12 @@
 //! A rehearsed device at its socket, and what is due of it.
-ghost use Rattle.std.specs.Prelude.{◌≡◌, ◌≤◌, ◌++◌, ◌∷◌, [], IfOk, OnOk, map, take};
+ghost use Rattle.std.specs.Prelude.{◌≡◌, IfOk, map};
 ghost use Rattle.cue_rehearsal_machine.specs.Seats as seats;
 
-use cue_device::{Answer, MAX_ANSWER, Order};
+use cue_device::{Answer, Meaning, Order};
 use cue_machine::Address;
 use cue_rehearsal::{Manner, Player, Work};
 use cue_show::DeviceNo;
 use std::alloc::{AllocError, Global};
-use std::slice;
 
 /// The time from one abort that nobody asked for to the next, in milliseconds: some four come in a second.
 pub const REPEAT: u64 = 250;
@@ -21,7 +20,7 @@ pub struct Role {
 }
 
 /// A rehearsed device at its socket. Moments are milliseconds since the rehearsal began.
-#[derive(Clone, Copy)]
+#[derive(Drop)]
 pub struct Seat {
     pub player: Player,
     /// Who sent the order that its machine began with last; its own address before the first one.
@@ -139,52 +138,42 @@ impl Seat {
         earlier(end_of(self.player.work()), self.repeat_of())
     }
 
-    /// A datagram came from there: the order that the machine begins with, and how many bytes of `out` are the answer.
-    /// What is ordered now takes so much longer.
-    pub fn hear(
-        &mut self,
-        now: u64,
-        longer: u32,
-        from: Address,
-        datagram: &[u8],
-        out: &mut [u8; MAX_ANSWER],
-    ) -> (Option<Order>, usize)
-        ensures heard { seats.Hears now longer from datagram.now self.old result.0 (take result.1 out.new) self.new }
-        ensures short { result.1 ≤ 32 }
+    /// A datagram came from there that is this to the device: its machine begins with what that orders, which takes so
+    /// much longer than always.
+    pub fn hear(&mut self, now: u64, longer: u32, from: Address, meaning: &Meaning)
+        ensures { self.new ≡ seats.seat_heard now longer from (seats.what_of meaning.now) self.old }
     {
-        let (order, len) = self.player.hear(datagram, now, longer, out);
-        self.controller = ordered_by(from, order, self.controller);
-        (order, len)
+        let heard = self.player.hear(meaning, now, longer);
+        self.controller = ordered_by(from, heard.order, self.controller);
     }
 
-    /// This is due now: what is answered.
-    pub fn pass(&mut self, due: Due, now: u64) -> Option<Answer>
-        ensures state { self.new ≡ seats.seat_passed now due self.old }
-        ensures said { result ≡ seats.answer_passed due self.old }
+    /// What is answered to what is due. Nothing changes before `pass`.
+    pub fn foresee(&self, due: Due) -> Option<Answer>
+        ensures { result ≡ seats.answer_passed due self.now }
     {
-        self.said = now;
         match due {
-            Due::Ends(order) => self.player.end(order),
+            Due::Ends(order) => self.player.foresee_end(order),
             Due::Repeats => self.player.tick(),
         }
     }
-}
 
-// One seat more, the last: a copy of this one. It is lent, since the prover has no proof of a `push` of so deep a value.
-fn push_seat(found: &mut Vec<Seat>, seat: &Seat) -> Result<(), AllocError>
-    ensures { OnOk result (found.new.items ≡ found.old.items ++ seat.now ∷ []) }
-{
-    found.extend_from_slice(slice::from_ref(seat))?;
-    Ok(())
+    /// This is due now, and `foresee` has said what is answered.
+    pub fn pass(&mut self, due: Due, now: u64)
+        ensures { self.new ≡ seats.seat_passed now due self.old }
+    {
+        self.said = now;
+        match due {
+            Due::Ends(order) => {
+                let _ = self.player.end(order);
+            }
+            Due::Repeats => {}
+        }
+    }
 }
 
 /// The seats of these.
 pub fn seats_of(alloc: Global, roles: &[Role]) -> Result<Vec<Seat>, AllocError>
     ensures { IfOk result (λ found. found.items ≡ map seats.seat_in roles.now) }
 {
-    let mut found = Vec::with_capacity(alloc, roles.len())?;
-    for role in roles {
-        push_seat(&mut found, &Seat::of(role))?;
-    }
-    Ok(found)
+    roles.iter().map(Seat::of).collect(alloc)
 }

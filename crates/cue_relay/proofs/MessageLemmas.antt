@@ -44,16 +44,16 @@ use Rattle.cue_relay.specs.Messages.{kept_if, order_in, order_of, is_reply, mess
 -- ---- what is written is read again
 
 -- a message that can be written
-record IsWritable (c : Content) : Type 0 where
-  plain : IsPlain 8 c
-  in_range : IsInRange c
-  short : length (text_of c) ≤ MAX_LEN
+pub record IsWritable (c : Content) : Type 0 where
+  pub plain : IsPlain 8 c
+  pub in_range : IsInRange c
+  pub short : length (text_of c) ≤ MAX_LEN
 
-read_back : (c : Content) → IsWritable c → datagram_at (text_of c) ≡ Ok c
+pub read_back : (c : Content) → IsWritable c → datagram_at (text_of c) ≡ Ok c
 read_back c w = datagram_again (text_of c) c (text_spells c w.plain w.in_range w.short)
 
 -- a number that an int32 holds
-fits : (n : ℕ) → n < 2 ^ 31 → FitsSigned w32 (pos n)
+pub fits : (n : ℕ) → n < 2 ^ 31 → FitsSigned w32 (pos n)
 fits n h = omega (arith, ints)
 
 -- ---- orders
@@ -164,7 +164,7 @@ order_in-is d bytes (Some c) h some none = sym (order_found d bytes c h some)
 
 -- ---- answers
 
-text-append : (s t : List ℕ) → IsText s → IsText t → IsText (s ++ t)
+pub text-append : (s t : List ℕ) → IsText s → IsText t → IsText (s ++ t)
 text-append [] t h k = k
 text-append (b ∷ bs) t h k = (h.0, text-append bs t h.1 k)
 
@@ -186,7 +186,7 @@ digits_text (suc k) n acc h =
     by true more = (glyph_some (n % 10), h)
     by false more = more
 
-decimal_text : (n : ℕ) → IsText (decimal n)
+pub decimal_text : (n : ℕ) → IsText (decimal n)
 unfolding digits
 decimal_text n = digits_text 64 n [] tt
 

@@ -58,7 +58,7 @@ cut-same size h r meters now at from bytes =
       ap (λ (o : Option Going). cond (is_some o) (meters_after meters at now) meters) same,
     )
 
-same_address : (a b : Address) → is_same a b ≡ true → a ≡ b
+pub same_address : (a b : Address) → is_same a b ≡ true → a ≡ b
 same_address a b e =
     let k = and_parts (a.host == b.host) (a.port == b.port) e in
     rw (eqb-true a.host b.host k.0, eqb-true a.port b.port k.1) refl
@@ -74,7 +74,7 @@ pub record Goes (r : Relay) (at : Opening) (from : Address) (bytes : List ℕ) (
   pub fits : length bytes ≤ MAX_LEN
   pub says : message_in at.side route.device bytes ≡ Some g.message
 
-guarded : {A : Type 0} (b : Bool) (o : Option A) (x : A) → cond b o None ≡ Some x → (b ≡ true) × (o ≡ Some x)
+pub guarded : {A : Type 0} (b : Bool) (o : Option A) (x : A) → cond b o None ≡ Some x → (b ≡ true) × (o ≡ Some x)
 guarded true o x e = (refl, e)
 guarded false o x e = absurd (none-some x e)
 

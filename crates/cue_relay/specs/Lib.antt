@@ -1,8 +1,15 @@
+pub mod Addresses
+pub mod Claims
+pub mod Fitting
 pub mod Hearing
 pub mod Laws
 pub mod Messages
 pub mod Motions
+pub mod Pieces
 pub mod Rates
+pub mod Reading
 pub mod Relayed
 pub mod Relaying
 pub mod Silences
+pub mod Status
+pub mod Telling

@@ -2,6 +2,7 @@
 ghost use Rattle.std.specs.Prelude.{◌≡◌};
 ghost use Rattle.cue_relay.specs.Silences.{AtRestIsNotSilent, IsOverOnceItAnswered, MovesUntilItAnswers};
 ghost use Rattle.cue_relay.specs.Silences.{SilentIsAsked};
+ghost use Rattle.cue_relay.specs.Telling.{OnlyItTells};
 ghost use Rattle.cue_relay.specs.declared.rate.TheConstants.{RATE, SECOND};
 
 /// Who is said to be silent was ordered to stand by or to let go, and has not answered that: never one that moves.
@@ -25,6 +26,12 @@ pub fn moves_until_it_answers()
 /// Such an answer ends it.
 pub fn is_over_once_it_answered()
     ensures { IsOverOnceItAnswered }
+{}
+
+/// Who tells something of a device is that device: at the stage's side of its own route, from its own address, in a
+/// datagram that is a claim of it.
+pub fn only_it_tells()
+    ensures { OnlyItTells }
 {}
 
 /// At most 100 datagrams of one device go on to the controller within 1,000 milliseconds.

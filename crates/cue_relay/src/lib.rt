@@ -25,24 +25,33 @@
 //!   a silence. An answer for another number is a sign of life and settles nothing.
 //! - No queue: a datagram that cannot be sent at once is lost, as on any network, and the controller repeats. A queue
 //!   would deliver orders late.
+//! - What a device tells of itself stays here (*claims*, `specs/Claims.antt`): it is shown as told by the device, and
+//!   nothing is decided by it. So it is kept apart from what the relay knows, and it takes nothing of the hundred.
 //! - The status is a file that is replaced whole, ten times a second: whoever only looks needs no permission to speak
 //!   to the relay, and a relay that has stopped shows by the age of its file.
 //! - Only IPv4, as four numbers: a name would be looked up by a service that may be slow or wrong in the middle of an
 //!   evening.
 //!
-//! Only tested: how the text of a status is read. `cue_relay_machine` writes it.
+//! A status is written and read here (`specs/Status.antt`): a text is read exactly if it is that of a status, byte for
+//! byte.
 #![tactic(auto)]
 
+mod address;
+mod claims;
+mod fields;
 mod going;
 mod hearing;
 pub mod laws;
 mod messages;
 mod motion;
+mod pieces;
 mod rate;
 mod relaying;
 mod route;
 pub mod status;
+mod telling;
 
+pub use claims::{Claim, Claims, MAX_UNIT, MAX_WORDS, Position, Reason, Unit, Words, claim_in};
 pub use going::{Going, way_and_message};
 pub use hearing::{Contact, News, Pending, SILENCE, hearing_limits};
 pub use messages::{Message, message_in};
@@ -50,3 +59,4 @@ pub use motion::Motion;
 pub use rate::{Meter, RATE, SECOND, admit, meters};
 pub use relaying::{Counts, Relay};
 pub use route::{Address, Opening, Route, Side, Way, way_of};
+pub use telling::claim_from;

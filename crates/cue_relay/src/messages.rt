@@ -36,8 +36,8 @@ fn last_number(datagram: &[u8]) -> Option<u32>
     Some(u32::from_be_bytes(number))
 }
 
-// Whether an attempt may have this number.
-fn is_attempt(number: u32) -> bool
+/// Whether an attempt may have this number.
+pub(crate) fn is_attempt(number: u32) -> bool
     ensures { result ≡ is_attempt number }
 {
     number >= 1 && number <= MAX_NUMBER

@@ -2,7 +2,8 @@
 use Rattle.std.proofs.Common.{◌≡◌, ℕ, suc, ◌+◌, ◌-◌, ◌<◌, ◌≤◌, Bool, true, false, cond, List, [], ◌∷◌, ◌++◌}
 use Rattle.std.proofs.Common.{length, map}
 use Rattle.std.proofs.Common.{Option, Some, None, refl, sym, ap, ◌∙◌, subst, arith, length-append}
-use Rattle.std.specs.Prelude.{count_by, drop, get_or, slice_get}
+use Rattle.std.specs.Prelude.{count_by, drop, get_or, is_none, is_some, slice_get}
+use Rattle.std.proofs.lemmas.Option.{none-some}
 use Rattle.std.proofs.lemmas.Bool.{lt-ltb}
 use Rattle.std.proofs.lemmas.List.{map-append}
 use Rattle.std.proofs.lemmas.List.Sums.{sum_by-append}
@@ -13,20 +14,24 @@ use Rattle.cue_machine.specs.declared.post.Output.{Output}
 use Rattle.cue_machine.specs.declared.post.Output.TheVariants as output
 use Rattle.cue_machine.specs.Living.{AreTurns, Turn, after_loss_of, after_losses}
 use Rattle.cue_machine.specs.Posting.{Given, Posted, given_as, given_of, posted_as}
+use Rattle.cue_relay.specs.declared.claims.Claim.{Claim}
+use Rattle.cue_relay.specs.declared.relaying.Relay.{Relay}
 use Rattle.cue_relay.specs.declared.going.Going.{Going}
 use Rattle.cue_relay.specs.declared.relaying.Counts.{Counts}
-use Rattle.cue_relay.specs.Relayed.{Answer, Sending, comes, ticks, goes_on, is_datagram}
+use Rattle.cue_relay.specs.Rates.{admits}
+use Rattle.cue_relay.specs.Relayed.{Answer, Sending, comes, ticks, goes_on, way_and_message}
+use Rattle.cue_relay.specs.Telling.{claim_from, claim_of}
 use Rattle.cue_relay_machine.specs.declared.books.Books.{Books}
 use Rattle.cue_relay_machine.specs.declared.known.Known.{Known}
 use Rattle.cue_relay_machine.specs.declared.machine.RelayMachine.{RelayMachine}
 use Rattle.cue_relay_machine.specs.Books.{books_lost, counted, highest, is_due, one_dropped, one_lost, one_passed}
-use Rattle.cue_relay_machine.specs.Laws.{Adds, CountsAll, is_lost_sending, total}
+use Rattle.cue_relay_machine.specs.Laws.{Adds, CountsAll, is_counted, is_lost_sending, total}
 use Rattle.cue_relay_machine.specs.Lives.{relay_machine}
-use Rattle.cue_relay_machine.specs.Places.{across_from, machine_address, opening_at}
-use Rattle.cue_relay_machine.specs.Steps.{State, after_loss, books_after, came, gives, going_given, state_of}
+use Rattle.cue_relay_machine.specs.Places.{across_from, machine_address, opening_at, relay_address}
+use Rattle.cue_relay_machine.specs.Steps.{State, after_loss, books_after, books_told, came, gives, going_given, state_of}
 use Rattle.cue_relay_machine.specs.Steps.{state_then, state_ticked, state_woken, told_given}
 use Rattle.cue_relay_machine.specs.Turns.{all_at_once, answer_as, answer_of, at_once, sending_as, sendings}
-use Rattle.cue_relay_machine.proofs.LifeLemmas.{sendings_both, told_none}
+use Rattle.cue_relay_machine.proofs.LifeLemmas.{sendings_both, told_none, turn_hands}
 
 count_both : (xs ys : List Posted)
     → count_by is_lost_sending (xs ++ ys) ≡ count_by is_lost_sending xs + count_by is_lost_sending ys
@@ -174,13 +179,56 @@ ticked_counts : (s : State) (now : ℕ) (b : Bool)
 ticked_counts s now true = refl
 ticked_counts s now false = refl
 
+-- it says nothing that goes on, since it tells something
+told_goes : (r : Relay) (meters : List (List ℕ)) (now at : ℕ) (from : machine.Address) (bytes : List ℕ) (c : Claim)
+    → claim_of r (came now at from bytes) ≡ Some c → goes_on r meters (came now at from bytes) ≡ None
+told_goes r meters now at from bytes c e =
+    by (admits meters (opening_at at) now) (way_and_message r (opening_at at) (relay_address from) bytes) e
+  where
+    by : (b : Bool) (o : Option Going)
+        → cond (is_some o) None (claim_from r (opening_at at) (relay_address from) bytes) ≡ Some c
+        → cond b o None ≡ None
+    by b (Some g) k = absurd (none-some c k)
+    by true None k = refl
+    by false None k = refl
+
+counted_yes : (r : Relay) (now at : ℕ) (from : machine.Address) (bytes : List ℕ)
+    → claim_of r (came now at from bytes) ≡ None → count_by (is_counted r) (came now at from bytes ∷ []) ≡ 1
+counted_yes r now at from bytes e = ap (λ (o : Option Claim). 0 + cond (is_none o) 1 0) e
+
+counted_no : (r : Relay) (now at : ℕ) (from : machine.Address) (bytes : List ℕ) (c : Claim)
+    → claim_of r (came now at from bytes) ≡ Some c → count_by (is_counted r) (came now at from bytes ∷ []) ≡ 0
+counted_no r now at from bytes c e = ap (λ (o : Option Claim). 0 + cond (is_none o) 1 0) e
+
+-- a datagram that came
+came_adds : (m mid : RelayMachine) (now at : ℕ) (from : machine.Address) (bytes : List ℕ) (ps : List Posted)
+    (date : List ℕ) (o : Option Claim)
+    → total m.books.counts < highest
+    → map given_of ps
+    ≡ going_given date m.known.items at bytes (goes_on m.relay m.meters.items (came now at from bytes))
+    → claim_of m.relay (came now at from bytes) ≡ o
+    → mid.books ≡ books_told m.books o (goes_on m.relay m.meters.items (came now at from bytes)) → mid.woken ≡ false
+    → Adds m.books.counts (after_losses after_loss ps mid).books.counts
+    (count_by (is_counted m.relay) (came now at from bytes ∷ [])) ps
+came_adds m mid now at from bytes ps date None fits e told f woken =
+    subst (λ (n : ℕ). Adds m.books.counts (after_losses after_loss ps mid).books.counts n ps)
+    (sym (counted_yes m.relay now at from bytes told))
+    (going_adds m mid date m.known.items at bytes (goes_on m.relay m.meters.items (came now at from bytes)) ps fits e f
+    woken)
+came_adds m mid now at from bytes ps date (Some c) fits e told f woken =
+    let none : map given_of ps ≡ [] =
+    e ∙ ap (going_given date m.known.items at bytes) (told_goes m.relay m.meters.items now at from bytes c told) in
+    subst (λ (n : ℕ). Adds m.books.counts (after_losses after_loss ps mid).books.counts n ps)
+    (sym (counted_no m.relay now at from bytes c told))
+    (quiet_adds m mid ps (ap sendings none) (ap (λ (b : Books). b.counts) f))
+
 turn_adds : (m mid : RelayMachine) (now : ℕ) (i : Input) (bytes : List ℕ) (ps : List Posted) (date : List ℕ)
     → total m.books.counts < highest → map given_of ps ≡ gives date (state_of m) now i bytes
     → state_of mid ≡ state_then (state_of m) now i bytes
     → Adds m.books.counts (after_losses after_loss ps mid).books.counts
-    (count_by is_datagram (answer_as now i bytes ∷ [])) (at_once i ps)
+    (count_by (is_counted m.relay) (answer_as now i bytes ∷ [])) (at_once i ps)
 turn_adds m mid now (input.Datagram at from) bytes ps date fits e f =
-    going_adds m mid date m.known.items at bytes (goes_on m.relay m.meters.items (came now at from bytes)) ps fits e
+    came_adds m mid now at from bytes ps date (claim_of m.relay (came now at from bytes)) fits e refl
     (ap (λ (s : State). s.books) f) (ap (λ (s : State). s.woken) f)
 turn_adds m mid now (input.Refused at) bytes ps date fits e f =
     quiet_adds m mid ps (ap sendings e) (ap (λ (s : State). s.books.counts) f)
@@ -195,38 +243,47 @@ length_both xs ys =
     ap length (ap sendings (map-append given_of xs ys) ∙ sendings_both (map given_of xs) (map given_of ys))
     ∙ length-append (sendings (map given_of xs)) (sendings (map given_of ys))
 
-came_both : (a : Answer) (more : List Answer)
-    → count_by is_datagram (a ∷ more) ≡ count_by is_datagram (a ∷ []) + count_by is_datagram more
-came_both a more = sum_by-append (λ x. cond (is_datagram x) 1 0) (a ∷ []) more
+came_both : (r : Relay) (a : Answer) (more : List Answer)
+    → count_by (is_counted r) (a ∷ more) ≡ count_by (is_counted r) (a ∷ []) + count_by (is_counted r) more
+came_both r a more = sum_by-append (λ x. cond (is_counted r x) 1 0) (a ∷ []) more
 
-came_at_most : (a : Answer) → count_by is_datagram (a ∷ []) ≤ 1
-came_at_most (comes now at from bytes) = omega arith
-came_at_most (ticks now) = omega arith
+came_at_most : (r : Relay) (a : Answer) → count_by (is_counted r) (a ∷ []) ≤ 1
+came_at_most r a = by (is_counted r a)
+  where
+    by : (b : Bool) → 0 + cond b 1 0 ≤ 1
+    by true = omega arith
+    by false = omega arith
 
 turns_add : (m : RelayMachine) (ts : List Turn) (m_then : RelayMachine) → AreTurns relay_machine m ts m_then
     → total m.books.counts + length ts ≤ highest
-    → Adds m.books.counts m_then.books.counts (count_by is_datagram (map answer_of ts)) (all_at_once ts)
+    → Adds m.books.counts m_then.books.counts (count_by (is_counted m.relay) (map answer_of ts)) (all_at_once ts)
 turns_add m [] m_then h fits = rw h (omega arith, omega arith, omega arith)
 turns_add m (t ∷ ts) m_then h fits =
+    let r : Relay = m.relay in
     let step = h.1.stepped in
     let less : total m.books.counts < highest = omega (arith, fits) in
     let posted : List Posted = at_once t.heard.input t.posted in
-    let one : Adds m.books.counts h.0.books.counts (count_by is_datagram (answer_of t ∷ [])) posted =
-    subst (λ (x : RelayMachine). Adds m.books.counts x.books.counts (count_by is_datagram (answer_of t ∷ [])) posted)
+    let one : Adds m.books.counts h.0.books.counts (count_by (is_counted r) (answer_of t ∷ [])) posted =
+    subst (λ (x : RelayMachine).
+    Adds m.books.counts x.books.counts (count_by (is_counted r) (answer_of t ∷ [])) posted)
     (sym h.1.after)
     (turn_adds m h.1.mid t.heard.now t.heard.input t.heard.bytes t.posted step.date less step.gave step.left) in
     let room : total h.0.books.counts + length ts ≤ highest =
-    omega (arith, fits, one.2, came_at_most (answer_of t)) in
-    let more = turns_add h.0 ts m_then h.2 room in
+    omega (arith, fits, one.2, came_at_most r (answer_of t)) in
+    let more : Adds h.0.books.counts m_then.books.counts (count_by (is_counted r) (map answer_of ts))
+    (all_at_once ts) =
+    subst (λ (x : Relay).
+    Adds h.0.books.counts m_then.books.counts (count_by (is_counted x) (map answer_of ts)) (all_at_once ts))
+    (turn_hands m t h.0 h.1).relay (turns_add h.0 ts m_then h.2 room) in
     let lost : count_by is_lost_sending (all_at_once (t ∷ ts))
     ≡ count_by is_lost_sending posted + count_by is_lost_sending (all_at_once ts) =
     count_both posted (all_at_once ts) in
     let sent : length (sendings (map given_of (all_at_once (t ∷ ts))))
     ≡ length (sendings (map given_of posted)) + length (sendings (map given_of (all_at_once ts))) =
     length_both posted (all_at_once ts) in
-    let came : count_by is_datagram (map answer_of (t ∷ ts))
-    ≡ count_by is_datagram (answer_of t ∷ []) + count_by is_datagram (map answer_of ts) =
-    came_both (answer_of t) (map answer_of ts) in (
+    let came : count_by (is_counted r) (map answer_of (t ∷ ts))
+    ≡ count_by (is_counted r) (answer_of t ∷ []) + count_by (is_counted r) (map answer_of ts) =
+    came_both r (answer_of t) (map answer_of ts) in (
       omega (arith, one.0, more.0, lost),
       omega (arith, one.1, more.1, sent),
       omega (arith, one.2, more.2, came),
@@ -237,5 +294,6 @@ counts-all m ts m_then h fits =
     let none : Counts = record { passed = 0; lost = 0; dropped = 0 } in
     let start : m.books.counts ≡ none = ap (λ (s : State). s.books.counts) h.new in
     let room : total m.books.counts + length ts ≤ highest = omega (arith, fits, ap total start) in
-    subst (λ (c : Counts). Adds c m_then.books.counts (count_by is_datagram (map answer_of ts)) (all_at_once ts)) start
+    subst (λ (c : Counts).
+    Adds c m_then.books.counts (count_by (is_counted m.relay) (map answer_of ts)) (all_at_once ts)) start
     (turns_add m ts m_then h.turns room)

@@ -6,4 +6,5 @@ pub mod LifeLemmas
 pub mod PastLemmas
 pub mod StepLemmas
 pub mod StillLemmas
+pub mod ToldLemmas
 pub mod WaitLemmas

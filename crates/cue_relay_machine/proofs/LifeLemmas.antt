@@ -35,7 +35,7 @@ use Rattle.cue_relay_machine.specs.Places.{across_from, opening_at, relay_addres
 use Rattle.cue_relay_machine.specs.Steps.{State, after_loss, came, file_given, gives, going_given, news_given}
 use Rattle.cue_relay_machine.specs.Steps.{report_given, silences_given, state_of, state_then, state_ticked, tick_given}
 use Rattle.cue_relay_machine.specs.Steps.{state_woken, told_given, trouble_given, waiting_after, wake_given}
-use Rattle.cue_relay_machine.specs.Texts.{after_time_of, status_text}
+use Rattle.cue_relay_machine.specs.Texts.{after_time_of, known_text}
 use Rattle.cue_relay_machine.specs.Turns.{all_at_once, answer_as, answer_of, at_once, at_wake, copies_at, handed_at}
 use Rattle.cue_relay_machine.specs.Turns.{handed_in, sending_as, sendings}
 use Rattle.cue_relay.specs.Hearing.{told_of_message, told_of_time}
@@ -79,7 +79,7 @@ trouble_none path b = none_if (says_trouble b) _ refl
 file_none : (file : Option (List ℕ)) (b : Books) (ks : List Known) (now : ℕ) → sendings (file_given file b ks now) ≡ []
 file_none None b ks now = refl
 file_none (Some path) b ks now =
-    none_both (trouble_given path b) (given_as output.Replace (status_text now b.counts ks) ∷ []) (trouble_none path b)
+    none_both (trouble_given path b) (given_as output.Replace (known_text now b.counts ks) ∷ []) (trouble_none path b)
     refl
 
 pub tick_none : (date : List ℕ) (s : State) (now : ℕ) → sendings (tick_given date s now) ≡ []

@@ -1,7 +1,8 @@
 -- What no life of a relay does, whatever comes and in whatever order.
 use Rattle.std.specs.Prelude.{◌≡◌, ◌≤◌, ◌<◌, ◌+◌, ◌^◌, ◌⊎◌, ◌&&◌, ◌==◌, nat_le, ℕ, Bool, true, false, List, []}
 use Rattle.std.specs.Prelude.{◌∷◌, ◌++◌, length, map, take, Some}
-use Rattle.std.specs.Prelude.{count_by, if◌then◌else◌, Contains}
+use Rattle.std.specs.Option.{option_map}
+use Rattle.std.specs.Prelude.{slice_get, is_none, count_by, if◌then◌else◌, Contains}
 use Rattle.std.specs.List.{list_all}
 use Rattle.cue_machine.specs.declared.address.Address as machine
 use Rattle.cue_machine.specs.declared.ears.Input.TheVariants as input
@@ -16,7 +17,11 @@ use Rattle.cue_relay.specs.declared.status.Ordered.TheVariants.{Go}
 use Rattle.cue_relay.specs.declared.route.Side.TheVariants.{Controller, Stage}
 use Rattle.cue_relay.specs.Laws.{AtMostAHundred, CameBy, is_controller}
 use Rattle.cue_relay.specs.Messages.{IsAnswerOf, IsOrderTo, IsReply}
-use Rattle.cue_relay.specs.Relayed.{Sending, all_handed_on, goes_on, is_datagram, times_then}
+use Rattle.cue_relay.specs.Relayed.{Answer, Sending, all_handed_on, comes, goes_on, ticks, times_then}
+use Rattle.cue_relay.specs.Telling.{claim_of}
+use Rattle.cue_relay.specs.Claims.{IsClaimOf, no_claims}
+use Rattle.cue_relay.specs.declared.claims.Claim.{Claim}
+use Rattle.cue_relay_machine.specs.Told.{claims_of, told_last}
 use Rattle.cue_relay_machine.specs.declared.machine.RelayMachine.{RelayMachine}
 use Rattle.cue_relay_machine.specs.declared.copies.TheConstants.{FIRST_COPY, LAST_COPY, SECOND_COPY}
 use Rattle.cue_relay_machine.specs.Copied.{OnlyCopies, copied, is_quiet, order_at}
@@ -141,10 +146,31 @@ Adds c d came ps =
     × (d.passed + d.lost ≡ c.passed + c.lost + length (sendings (map given_of ps)))
     × (total d ≡ total c + came)
 
+-- it is a datagram that tells nothing of its device
+abbrev pub is_counted : Relay → Answer → Bool
+is_counted r (comes now at from bytes) = is_none (claim_of r (comes now at from bytes))
+is_counted r (ticks now) = false
+
 -- the counts of a life are those of what came and was posted for it: copies, which are sent at wakes, are counted
--- nowhere. A life has fewer turns than there are numbers
+-- nowhere, and what a device tells of itself neither. A life has fewer turns than there are numbers
 abbrev pub CountsAll : Type 0
 CountsAll =
     (m : RelayMachine) (ts : List Turn) (m_then : RelayMachine) → HadTurns m ts m_then → length ts < 2 ^ 64
     → Adds (record { passed = 0; lost = 0; dropped = 0 }) m_then.books.counts
-    (count_by is_datagram (map answer_of ts)) (all_at_once ts)
+    (count_by (is_counted m.relay) (map answer_of ts)) (all_at_once ts)
+
+-- ---- claims
+
+-- of each device is kept what it told last of itself, at the stage's side of its own route and from its own address
+abbrev pub KeepsClaims : Type 0
+KeepsClaims =
+    (m : RelayMachine) (ts : List Turn) (m_then : RelayMachine) (n : ℕ) (route : Route) → HadTurns m ts m_then
+    → slice_get m.relay.routes.now n ≡ Some route
+    → option_map claims_of (slice_get m_then.known.items n)
+    ≡ Some (told_last m.relay n no_claims (map answer_of ts))
+
+-- what is handed to the controller is a claim of no device
+abbrev pub HandsNoClaim : Type 0
+HandsNoClaim =
+    (m : RelayMachine) (ts : List Turn) (m_then : RelayMachine) (s : Sending) (d : ℕ) (c : Claim)
+    → HadTurns m ts m_then → Contains (sent_in ts) s → s.way.out.side ≡ Controller → IsClaimOf d s.bytes c → ⊥

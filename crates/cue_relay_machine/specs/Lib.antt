@@ -6,4 +6,5 @@ pub mod Lives
 pub mod Places
 pub mod Steps
 pub mod Texts
+pub mod Told
 pub mod Turns

@@ -10,12 +10,14 @@ use Rattle.cue_machine.specs.declared.post.Output.{Output}
 use Rattle.cue_machine.specs.declared.post.Output.TheVariants as output
 use Rattle.cue_machine.specs.Hearing.{Heard}
 use Rattle.cue_machine.specs.Posting.{Given, given_as}
+use Rattle.cue_relay.specs.declared.claims.Claim.{Claim}
 use Rattle.cue_relay.specs.declared.going.Going.{Going}
 use Rattle.cue_relay.specs.declared.hearing.News.{News}
 use Rattle.cue_relay.specs.declared.messages.Message.{Message}
 use Rattle.cue_relay.specs.declared.relaying.Relay.{Relay}
 use Rattle.cue_relay.specs.Hearing.{told_of_message, told_of_time}
 use Rattle.cue_relay.specs.Relayed.{Answer, comes, goes_on, no_times, times_then}
+use Rattle.cue_relay.specs.Telling.{claim_of}
 use Rattle.cue_relay_machine.specs.declared.books.Books.{Books}
 use Rattle.cue_relay_machine.specs.declared.copies.Waiting.{Waiting}
 use Rattle.cue_relay_machine.specs.declared.known.Known.{Known}
@@ -24,7 +26,7 @@ use Rattle.cue_relay_machine.specs.Books.{books_lost, is_due, new_books, next_ti
 use Rattle.cue_relay_machine.specs.Books.{says_trouble, ticked}
 use Rattle.cue_relay_machine.specs.Copies.{after_wake, copies_given, earliest, taken_at}
 use Rattle.cue_relay_machine.specs.Places.{across_from, machine_address, opening_at, relay_address}
-use Rattle.cue_relay_machine.specs.Texts.{after_time_of, device_line, dropped_line, status_text, take_at}
+use Rattle.cue_relay_machine.specs.Texts.{after_time_of, device_line, dropped_line, known_text, take_at, tell_at}
 use Rattle.cue_relay_machine.specs.Texts.{trouble_line, unknown}
 
 -- What a relay knows: the routes, the file of its status, when the last datagrams went on, the devices, the GO of each
@@ -100,27 +102,42 @@ abbrev pub known_after : List Known → ℕ → ℕ → Option Going → List Kn
 known_after known at now None = known
 known_after known at now (Some g) = take_at known (opening_at at).route g.message now
 
+-- what a device tells of itself is kept
+abbrev pub known_told : List Known → ℕ → ℕ → Option Claim → List Known
+known_told known at now None = known
+known_told known at now (Some c) = tell_at known (opening_at at).route c now
+
 -- and counted
 abbrev pub books_after : Books → Option Going → Books
 books_after b None = one_dropped b
 books_after b (Some g) = one_passed b
+
+-- but for what a device tells of itself, which is counted nowhere
+abbrev pub books_told : Books → Option Claim → Option Going → Books
+books_told b None going = books_after b going
+books_told b (Some c) going = b
 
 -- and a GO is to be said again
 abbrev pub waiting_after : List (Option Waiting) → ℕ → ℕ → List ℕ → Option Going → List (Option Waiting)
 waiting_after waiting at now bytes None = waiting
 waiting_after waiting at now bytes (Some g) = taken_at waiting (opening_at at).route now g bytes
 
--- what the relay knows once this came, which goes on so
-abbrev pub state_after : State → Answer → ℕ → ℕ → List ℕ → Option Going → State
-state_after s a now at bytes going = record {
+-- what the relay knows once this came, which goes on so, and tells this of its device
+abbrev pub state_after : State → Answer → ℕ → ℕ → List ℕ → Option Going → Option Claim → State
+state_after s a now at bytes going claim = record {
   relay = s.relay;
   file = s.file;
   meters = times_then s.relay s.meters a;
-  known = known_after s.known at now going;
+  known = known_told (known_after s.known at now going) at now claim;
   waiting = waiting_after s.waiting at now bytes going;
   woken = false;
-  books = books_after s.books going;
+  books = books_told s.books claim going;
 }
+
+-- what the relay knows once a datagram came by this route that does not go on, and tells this of its device
+abbrev pub state_heard : State → ℕ → ℕ → Option Claim → State
+state_heard s now route None = record s { woken = false; books = one_dropped s.books }
+state_heard s now route (Some c) = record s { known = tell_at s.known route c now; woken = false }
 
 -- ---- a tick
 
@@ -137,7 +154,7 @@ trouble_given path b = if says_trouble b then given_as output.Say (trouble_line 
 abbrev pub file_given : Option (List ℕ) → Books → List Known → ℕ → List Given
 file_given None b known now = []
 file_given (Some path) b known now =
-    trouble_given path b ++ given_as output.Replace (status_text now b.counts known) ∷ []
+    trouble_given path b ++ given_as output.Replace (known_text now b.counts known) ∷ []
 
 -- what is given at a tick
 abbrev pub tick_given : List ℕ → State → ℕ → List Given
@@ -172,10 +189,12 @@ gives date s now input.Wake bytes = wake_given date s now
 abbrev pub state_then : State → ℕ → Input → List ℕ → State
 state_then s now (input.Datagram at from) bytes =
     state_after s (came now at from bytes) now at bytes (goes_on s.relay s.meters (came now at from bytes))
+    (claim_of s.relay (came now at from bytes))
 state_then s now (input.Refused at) bytes = s
 state_then s now input.Wake bytes = state_woken (if is_due s.books now then state_ticked s now else s) now
 
--- The law: what goes on of a datagram leaves once, with its own bytes; it is noted of its device, and counted. At a
+-- The law: what goes on of a datagram leaves once, with its own bytes; it is noted of its device, and counted. What a
+-- device tells of itself is kept, and changes nothing else. At a
 -- wake the copies of a GO are said that are due. At a tick it is said who falls silent and how many were dropped, and
 -- the status is written. Nothing else is given. Before each line stands a date.
 pub record Steps (s : State) (h : Heard) (given : List Given) (s_then : State) : Type 0 where

@@ -1,9 +1,10 @@
 //! What is known of each device.
 ghost use Rattle.std.specs.Prelude.{◌≡◌, IfOk, map};
 ghost use Rattle.cue_relay.specs.Hearing.{told_of_message, told_of_time};
-ghost use Rattle.cue_relay_machine.specs.Texts.{after_message_of, after_time_of, take_at, unknown};
+ghost use Rattle.cue_relay_machine.specs.Texts.{after_claim_of, after_message_of, after_time_of, take_at};
+ghost use Rattle.cue_relay_machine.specs.Texts.{tell_at, unknown};
 
-use cue_relay::{Contact, Message, News, Route};
+use cue_relay::{Claim, Claims, Contact, Message, News, Route};
 use std::alloc::{AllocError, Global};
 
 /// A device, and what is known of it.
@@ -11,6 +12,8 @@ use std::alloc::{AllocError, Global};
 pub struct Known {
     pub route: Route,
     pub contact: Contact,
+    /// What it told of itself.
+    pub claims: Claims,
 }
 
 impl Known {
@@ -31,6 +34,18 @@ impl Known {
         Known {
             route: self.route,
             contact,
+            claims: self.claims,
+        }
+    }
+
+    // It is what is known once it told this of itself.
+    fn after_claim(self, claim: Claim, now: u64) -> Known
+        ensures { result ≡ after_claim_of self claim now }
+    {
+        Known {
+            route: self.route,
+            contact: self.contact,
+            claims: self.claims.after(claim, now),
         }
     }
 
@@ -51,6 +66,7 @@ impl Known {
         Known {
             route: self.route,
             contact,
+            claims: self.claims,
         }
     }
 }
@@ -64,6 +80,7 @@ pub fn all_known(alloc: Global, routes: &[Route]) -> Result<Vec<Known>, AllocErr
         known.push(Known {
             route: *route,
             contact: Contact::NEVER,
+            claims: Claims::NONE,
         })?;
     }
     Ok(known)
@@ -75,5 +92,14 @@ pub fn take_at(known: &mut [Known], route: usize, message: Message, now: u64)
 {
     if route < known.len() {
         known[route] = known[route].after_message(message, now);
+    }
+}
+
+/// The device of this route told this of itself.
+pub fn tell_at(known: &mut [Known], route: usize, claim: Claim, now: u64)
+    ensures { known.new ≡ tell_at known.old route claim now }
+{
+    if route < known.len() {
+        known[route] = known[route].after_claim(claim, now);
     }
 }

@@ -2,7 +2,8 @@
 ghost use Rattle.std.specs.Prelude.{◌≡◌, ◌<◌};
 ghost use Rattle.cue_osc.specs.declared.limits.TheConstants.{MAX_LEN};
 ghost use Rattle.cue_relay_machine.specs.Laws.{CopiesOnlyGoes, CountsAll, CutIsTheSame, HandsAtARate, HandsOn};
-ghost use Rattle.cue_relay_machine.specs.Laws.{HandsOnlyAnswers, HandsOnlyOrders, SaysAgain, SaysThrice};
+ghost use Rattle.cue_relay_machine.specs.Laws.{HandsNoClaim, HandsOnlyAnswers, HandsOnlyOrders, KeepsClaims};
+ghost use Rattle.cue_relay_machine.specs.Laws.{SaysAgain, SaysThrice};
 ghost use Rattle.cue_relay_machine.specs.declared.books.TheConstants.{DROPPED_PAUSE, TICK};
 ghost use Rattle.cue_relay_machine.specs.declared.copies.TheConstants.{FIRST_COPY, LAST_COPY, SECOND_COPY};
 ghost use Rattle.cue_relay_machine.specs.declared.living.TheConstants.{MAX_RECEIVED};
@@ -56,9 +57,20 @@ pub fn cut_is_the_same()
 {}
 
 /// The counts of a relay are those of its whole life: what was handed on and left, what was handed on and lost, and
-/// what was dropped. Each datagram that came is counted once, and a copy nowhere.
+/// what was dropped. Each datagram that came is counted once, but for claims; those and copies are counted nowhere.
 pub fn counts_all()
     ensures { CountsAll }
+{}
+
+/// What is kept of a device's claims is what it told last of itself, of each kind: at the stage's side of its own route,
+/// from its own address. What anybody else says changes nothing of it.
+pub fn keeps_claims()
+    ensures { KeepsClaims }
+{}
+
+/// A claim is never handed on: nothing that is handed to the controller is a claim, of whatever device.
+pub fn hands_no_claim()
+    ensures { HandsNoClaim }
 {}
 
 /// A status goes out each 100 milliseconds, and at most each 10,000 it is said how many were dropped. At most 4,100

@@ -4,8 +4,9 @@
 //! go on, and how, is what `cue_relay` says; one that goes on leaves by the socket across, with its own bytes. A GO is
 //! sent again 7 and 14 milliseconds later (a *copy*), as long as no other order to its device comes
 //! (`specs/Copies.antt`). What a step gives, and what the relay knows after it, stands in `specs/Steps.antt`, and each
-//! line and the status, byte for byte, in `specs/Texts.antt`. `run` says what a whole life sends, and `laws` what no
-//! life does, and what each does.
+//! line, byte for byte, in `specs/Texts.antt`; the text of the status is that of `cue_relay`. What a device tells of itself
+//! (a *claim*) is kept beside what is known of it, and shown in the status: nothing is decided by it. `run` says what a
+//! whole life sends, and `laws` what no life does, and what each does.
 //!
 //! Why it is so:
 //! - A step first gives all that needs memory, and only then asks the meter of the device, which notes that something

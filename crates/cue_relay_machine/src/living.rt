@@ -15,7 +15,7 @@ const MAX_RECEIVED: usize = 4_100;
 const OUTPUTS: usize = 128;
 
 /// And for how many bytes of them: those of a status of all devices.
-const BYTES: usize = 16_384;
+const BYTES: usize = 32_768;
 
 // Relays so many datagrams and wakes at most, in this room.
 fn relay_in<E: Ears, P: Post>(

@@ -5,6 +5,7 @@ ghost use Rattle.cue_machine.specs.Hearing.{heard_as};
 ghost use Rattle.cue_machine.specs.Posting.{given_as};
 ghost use Rattle.cue_machine.specs.declared.ears.Input.TheVariants as input;
 ghost use Rattle.cue_machine.specs.declared.post.Output.TheVariants as output;
+ghost use Rattle.cue_relay.specs.Telling.{claim_from};
 ghost use Rattle.cue_relay_machine.specs.Books.{is_due, one_dropped, one_passed};
 ghost use Rattle.cue_relay_machine.specs.Lives.{IsNew};
 ghost use Rattle.cue_relay_machine.specs.Places.{across_from, machine_address};
@@ -14,12 +15,15 @@ ghost use Rattle.cue_relay_machine.specs.Texts.{after_time_of, take_at};
 
 use crate::books::Books;
 use crate::copies::{Waiting, earliest, pass_copies, push_copies, settle_waiting};
-use crate::known::{Known, all_known, take_at};
+use crate::known::{Known, all_known, take_at, tell_at};
 use crate::lines::{date_of, push_news, push_report};
 use crate::places::{across_from, machine_address, opening_at, relay_address};
 use crate::status::push_file;
 use cue_machine::{Address, Input, Machine, Output, Outputs};
-use cue_relay::{Going, Message, Meter, Relay, admit, meters, way_and_message};
+use cue_relay::{
+    Address as RouteAddress, Going, Message, Meter, Opening, Relay, admit, claim_from, meters,
+    way_and_message,
+};
 use std::alloc::{AllocError, Global};
 
 /// A relay: what it knows of the datagrams that went on, and of each device.
@@ -181,6 +185,18 @@ impl<'a> RelayMachine<'a> {
         })
     }
 
+    // A datagram came that does not go on: what its device tells of itself is kept, and all else is dropped.
+    fn hear(&mut self, now: u64, at: Opening, from: RouteAddress, bytes: &[u8])
+        ensures { state_of self.new ≡ step.state_heard (state_of self.old) now at.route
+            (claim_from self.old.relay at from bytes.now) }
+    {
+        match claim_from(self.relay, at, from, bytes) {
+            Some(claim) => tell_at(&mut self.known, at.route, claim, now),
+            None => self.books = self.books.one_dropped(),
+        }
+        self.woken = false;
+    }
+
     // A datagram came at the socket of a place.
     fn take(
         &mut self,
@@ -198,8 +214,7 @@ impl<'a> RelayMachine<'a> {
         let opening = opening_at(at);
         let from = relay_address(from);
         let Some(going) = way_and_message(self.relay, opening, from, bytes) else {
-            self.books = self.books.one_dropped();
-            self.woken = false;
+            self.hear(now, opening, from, bytes);
             return Ok(());
         };
         let date = date_for(self.alloc, &self.known, opening.route, going.message, now)?;

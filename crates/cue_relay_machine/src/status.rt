@@ -1,137 +1,61 @@
 //! The status: what a relay says of itself, as a small text. The desk reads it to show when each device was heard.
-ghost use Rattle.std.specs.Prelude.{◌≡◌, ◌++◌, IfOk, OnOk, flat_map, string_bytes};
+ghost use Rattle.std.specs.Prelude.{◌≡◌, ◌++◌, IfOk, OnOk, map, string_bytes};
 ghost use Rattle.cue_relay_machine.specs.Steps.{file_given, path_of, trouble_given};
-ghost use Rattle.cue_relay_machine.specs.Texts.{contact_text, head_text, heard_text, motion_text, ordered_word};
-ghost use Rattle.cue_relay_machine.specs.Texts.{pending_text, place_text, seen_text, silent_text, status_text};
-ghost use Rattle.cue_relay_machine.specs.Texts.{trouble_line};
+ghost use Rattle.cue_relay_machine.specs.Texts.{known_text, seen_of, trouble_line};
 
 use crate::books::Books;
 use crate::known::Known;
-use crate::places::machine_address;
 use cue_machine::{Output, Outputs};
-use cue_relay::status::Ordered;
-use cue_relay::{Contact, Counts, Motion, Pending};
+use cue_relay::Counts;
+use cue_relay::status::{Seen, Status, write};
 use std::alloc::{AllocError, Global};
-use std::fmt::Write;
 
-/// How many bytes a status has room for at first, beside those of its devices.
-const HEAD: usize = 128;
-
-/// How many bytes a device has room for at first.
-const DEVICE: usize = 72;
-
-// When it was written, and the counts.
-fn put_head(text: &mut String, now: u64, counts: Counts) -> Result<(), AllocError>
-    ensures { OnOk result (string_bytes text.new ≡ string_bytes text.old ++ head_text now counts) }
+// What is said of a device.
+fn seen_of(known: &Known) -> Seen
+    ensures { result ≡ seen_of known.now }
 {
-    let (passed, lost, dropped) = (counts.passed, counts.lost, counts.dropped);
-    write!(
-        text,
-        "relay 3 {now}\npassed {passed} lost {lost} dropped {dropped}\n"
-    )
-}
-
-// When a device answered last.
-fn put_heard(text: &mut String, heard: Option<u64>) -> Result<(), AllocError>
-    ensures { OnOk result (string_bytes text.new ≡ string_bytes text.old ++ heard_text heard) }
-{
-    match heard {
-        Some(heard) => write!(text, "heard {heard}"),
-        None => text.push_str("never"),
+    let ordered = match known.contact.pending {
+        Some(pending) => Some(pending.order),
+        None => None,
+    };
+    Seen {
+        device: known.route.device,
+        address: known.route.address,
+        heard: known.contact.heard,
+        ordered,
+        motion: known.contact.motion,
+        silent: known.contact.silent,
+        claims: known.claims,
     }
 }
 
-// The word of an order.
-fn ordered_word(ordered: Ordered) -> &'static str
-    ensures { result.now ≡ ordered_word ordered }
+// What is said of all devices.
+fn all_seen(alloc: Global, known: &[Known]) -> Result<Vec<Seen>, AllocError>
+    ensures { IfOk result (λ seen. seen.items ≡ map seen_of known.now) }
 {
-    match ordered {
-        Ordered::Standby => " standby",
-        Ordered::Go => " go",
-        Ordered::Cancel => " cancel",
-    }
-}
-
-// The order that a device has not answered.
-fn pending_word(pending: Option<Pending>) -> &'static str
-    ensures { result.now ≡ pending_text pending }
-{
-    match pending {
-        Some(pending) => ordered_word(pending.order),
-        None => "",
-    }
-}
-
-// What is known of the motions of a device.
-fn put_motion(text: &mut String, motion: Motion) -> Result<(), AllocError>
-    ensures { OnOk result (string_bytes text.new ≡ string_bytes text.old ++ motion_text motion) }
-{
-    match motion {
-        Motion::Unknown => Ok(()),
-        Motion::Moving(seq) => write!(text, " moving {seq}"),
-        Motion::Over(seq) => write!(text, " over {seq}"),
-    }
-}
-
-// Whether a device is silent, and the end of its line.
-fn silent_word(silent: bool) -> &'static str
-    ensures { result.now ≡ silent_text silent }
-{
-    if silent { " silent\n" } else { "\n" }
-}
-
-// A device, and its address.
-fn put_place(text: &mut String, known: &Known) -> Result<(), AllocError>
-    ensures { OnOk result (string_bytes text.new ≡ string_bytes text.old ++ place_text known.now) }
-{
-    let device = known.route.device.number();
-    let address = machine_address(known.route.address);
-    write!(text, "device {device} {address} ")
-}
-
-// What is known of it.
-fn put_contact(text: &mut String, contact: Contact) -> Result<(), AllocError>
-    ensures { OnOk result (string_bytes text.new ≡ string_bytes text.old ++ contact_text contact) }
-{
-    put_heard(text, contact.heard)?;
-    text.push_str(pending_word(contact.pending))?;
-    put_motion(text, contact.motion)?;
-    text.push_str(silent_word(contact.silent))
-}
-
-// The line of a device.
-fn put_seen(text: &mut String, known: &Known) -> Result<(), AllocError>
-    ensures { OnOk result (string_bytes text.new ≡ string_bytes text.old ++ seen_text known.now) }
-{
-    put_place(text, known)?;
-    put_contact(text, known.contact)
-}
-
-// The lines of all devices.
-fn put_devices(text: &mut String, known: &[Known]) -> Result<(), AllocError>
-    ensures { OnOk result (string_bytes text.new ≡ string_bytes text.old ++ flat_map seen_text known.now) }
-{
+    let mut seen = Vec::with_capacity(alloc, known.len())?;
     for one in known {
-        put_seen(text, one)?;
+        seen.push(seen_of(one))?;
     }
-    Ok(())
+    Ok(seen)
 }
 
-// The whole status.
-fn status_text(
+// The whole status, as a text.
+fn known_text(
     alloc: Global,
     now: u64,
     counts: Counts,
     known: &[Known],
-) -> Result<String, AllocError>
-    ensures { IfOk result (λ text. string_bytes text ≡ status_text now counts known.now) }
+) -> Result<Vec<u8>, AllocError>
+    ensures { IfOk result (λ text. text.items ≡ known_text now counts known.now) }
 {
-    let room = known.len().saturating_mul(DEVICE).saturating_add(HEAD);
-    let mut text = String::with_capacity(alloc, room)?;
-    put_head(&mut text, now, counts)?;
-    put_devices(&mut text, known)?;
-    text.push_str("end\n")?;
-    Ok(text)
+    let devices = all_seen(alloc, known)?;
+    let status = Status {
+        now,
+        counts,
+        devices,
+    };
+    write(alloc, &status)
 }
 
 // What is said of a file that cannot be written.
@@ -172,6 +96,6 @@ pub fn push_file(
         return Ok(());
     };
     push_trouble(alloc, out, path, books)?;
-    let text = status_text(alloc, now, books.counts, known)?;
-    out.push(Output::Replace, text.as_bytes())
+    let text = known_text(alloc, now, books.counts, known)?;
+    out.push(Output::Replace, &text)
 }

@@ -3,7 +3,7 @@ use Rattle.cue_relay.specs.Rates.{admits}
 use Rattle.cue_relay.specs.Relayed.{way_and_message}
 use Rattle.cue_relay_machine.specs.Places.{opening_at, relay_address}
 use Rattle.cue_relay_machine.specs.Steps.{state_of}
-use Rattle.cue_relay_machine.proofs.StepLemmas.{dropped, settled, settled_parts}
+use Rattle.cue_relay_machine.proofs.StepLemmas.{heard, settled, settled_parts}
 use Rattle.cue_relay_machine.proofs.machine.RelayMachine.take.Goals as goal
 
 pub returns-in_default-clause-taken : goal.returns-in_default-clause-taken
@@ -11,9 +11,9 @@ returns-in_default-clause-taken c =
     let s = state_of c.args.self.now in
     let raw : way_and_message s.relay c.opening_at-opening.result c.relay_address-from.result c.args.bytes.now ≡ None =
     sym c.way_and_message.ensures ∙ c.in_default.is in
-    dropped s c.args.now c.args.at c.args.from c.args.bytes.now _ _
+    heard s c.args.now c.args.at c.args.from c.args.bytes.now _ _
     (rw (c.opening_at-opening.ensures, c.relay_address-from.ensures) at raw) c.requires
-    (rw c.one_dropped-self.ensures refl)
+    (rw (c.opening_at-opening.ensures, c.relay_address-from.ensures) at c.hear.ensures)
 
 pub returns-clause-taken : goal.returns-clause-taken
 returns-clause-taken c =

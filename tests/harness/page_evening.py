@@ -228,16 +228,24 @@ def order_words(number, silent, told):
     return " standby silent" if silent else ""
 
 
-def write_status(path, devices, now=None, **told):
+def claim_lines(now, claims):
+    """What a device tells of itself: `why` with attempt and words, `at` with place, goal and unit, `who` with words."""
+    lines = [f"why {attempt} {words}" for attempt, words in claims.get("why", [])]
+    lines += [f"at {now} {at} {goal} {unit}" for at, goal, unit in claims.get("at", [])]
+    return lines + [f"who {words}" for words in claims.get("who", [])]
+
+
+def write_status(path, devices, now=None, claims=None, **told):
     """What a relay says of these devices: for each the seconds since it was heard, or none, and whether it is silent.
     `going`, `moving` and `over` have devices, each with an attempt: in which it was sent GO, and that order or another
-    one is the last; and up to which its motions are over."""
+    one is the last; and up to which its motions are over. `claims` has what each device tells of itself."""
     now = time.time_ns() // 10**6 if now is None else now
-    lines = [f"relay 3 {now}", "passed 7 lost 0 dropped 2"]
+    lines = [f"relay 4 {now}", "passed 7 lost 0 dropped 2"]
     for number, (ago, silent) in devices.items():
         heard = "never" if ago is None else f"heard {now - 1000 * ago}"
         words = {"go moving": told.get("going", {}), "moving": told.get("moving", {}), "over": told.get("over", {})}
         lines.append(f"device {number} 10.0.7.31:{9000 + number} {heard}{order_words(number, silent, words)}")
+        lines += claim_lines(now, (claims or {}).get(number, {}))
     path.with_suffix(".new").write_text("\n".join([*lines, "end", ""]))
     path.with_suffix(".new").rename(path)
 

@@ -1,2 +1,3 @@
 pub mod BoardLemmas
+pub mod ClaimLemmas
 pub mod RoomLemmas

@@ -1,6 +1,6 @@
 -- The board: what each line says of the view, from its front on. Names and notes of the show file follow after that.
 use Rattle.std.specs.Prelude.{◌≡◌, ◌≤◌, ◌⊎◌, ℕ, suc, Bool, true, false, ◌&&◌, ◌==◌, nat_le, length, replicate, count_by}
-use Rattle.std.specs.Prelude.{◌+◌, ◌-◌, ◌/◌, find}
+use Rattle.std.specs.Prelude.{◌+◌, ◌-◌, ◌/◌, find, min}
 use Rattle.std.specs.Prelude.{List, [], ◌∷◌, ◌++◌, map, take, drop, codes, string_bytes}
 use Rattle.std.specs.Prelude.{Option, None, Some, is_some, nat_eq, if◌then◌else◌}
 use Rattle.std.specs.Fmt.{decimal}
@@ -16,6 +16,7 @@ use Rattle.cue_show.specs.Show.{is_place}
 use Rattle.cue_words.specs.Answered.{answer_words, reason_words}
 use Rattle.cue_view.specs.declared.view.Alarm.{Alarm}
 use Rattle.cue_view.specs.declared.view.Alarm.TheVariants as alarm
+use Rattle.cue_view.specs.declared.view.Contacted.{Contacted}
 use Rattle.cue_view.specs.declared.view.LiveAttempt.{LiveAttempt}
 use Rattle.cue_view.specs.declared.view.Next.{Next}
 use Rattle.cue_view.specs.declared.view.Next.TheVariants as next
@@ -23,6 +24,7 @@ use Rattle.cue_view.specs.declared.view.View.{View}
 use Rattle.cue_view.specs.Late.{relay_late, serve_late}
 use Rattle.cue_view.specs.Sight.{is_in_sight}
 use Rattle.cue_board.specs.Alarms.{alarm_words}
+use Rattle.cue_board.specs.Claims.{answer_says, has_answer_said}
 use Rattle.cue_columns.specs.Columns.{fit_of}
 use Rattle.cue_board.specs.Ends.{last_said, last_takes}
 use Rattle.cue_board.specs.Progress.{progress_of}
@@ -31,6 +33,7 @@ use Rattle.cue_board.specs.Together.{with_said}
 use Rattle.cue_show_file.specs.Together.{others_of}
 use Rattle.cue_show_file.specs.declared.together.Group.{Group}
 use Rattle.cue_columns.specs.declared.columns.TheConstants.{COLUMNS}
+use Rattle.cue_board.specs.declared.board.TheConstants.{CLAIMED}
 use Rattle.cue_board.specs.declared.line.BoardLine.{BoardLine}
 use Rattle.cue_board.specs.declared.live.TheConstants.{NAME_AT}
 use Rattle.cue_board.specs.declared.names.Names.{Names}
@@ -228,10 +231,19 @@ owed_line a = if is_owed a then owed_words a ∷ [] else []
 abbrev pub owed_said : Alarm → List LiveAttempt → List (List ℕ)
 owed_said a live = if holds_back a then flat_map owed_line live else []
 
--- an alarm, and what moves once it is over
+-- what the devices say of it that failed in a live attempt
+abbrev pub fault_says : List Contacted → Option LiveAttempt → List (List ℕ)
+fault_says network None = []
+fault_says network (Some a) = flat_map (answer_says network a.seq) a.devices
+
+abbrev pub alarm_says : View → Alarm → List (List ℕ)
+alarm_says v (alarm.Failed q) = fault_says v.network.items (live_of q v.live.items)
+alarm_says v _ = []
+
+-- an alarm, what moves once it is over, and what devices say of it
 abbrev pub called : ℕ → View → Option Alarm → List (List ℕ)
 called port v None = []
-called port v (Some a) = (codes "ALARM  " ++ words_of port v a) ∷ owed_said a v.live.items
+called port v (Some a) = (codes "ALARM  " ++ words_of port v a) ∷ (owed_said a v.live.items ++ alarm_says v a)
 
 abbrev pub alarm_said : ℕ → View → List (List ℕ)
 alarm_said port v = called port v (loudest v)
@@ -257,7 +269,7 @@ read_said v =
 
 -- the attempt that ended last, and the age of what is shown
 abbrev pub ends_said : Names → View → List (List ℕ)
-ends_said names v = last_said names v.last ++ (read_said v ∷ [])
+ends_said names v = last_said names v.network.items v.last ++ (read_said v ∷ [])
 
 -- the loudest alarm, the stack, each live attempt with its devices, the last attempt, and the age
 abbrev pub board_with : ℕ → Names → View → List (List ℕ)
@@ -282,9 +294,18 @@ board_said shown names v = if shown == 0 then board_brief names v else board_wit
 abbrev pub owed_takes : Alarm → List LiveAttempt → ℕ
 owed_takes a live = if holds_back a then count_by is_owed live else 0
 
+-- and what devices say of it
+abbrev pub fault_takes : List Contacted → Option LiveAttempt → ℕ
+fault_takes network None = 0
+fault_takes network (Some a) = count_by (has_answer_said network a.seq) a.devices
+
+abbrev pub says_takes : View → Alarm → ℕ
+says_takes v (alarm.Failed q) = fault_takes v.network.items (live_of q v.live.items)
+says_takes v _ = 0
+
 abbrev pub called_takes : View → Option Alarm → ℕ
 called_takes v None = 0
-called_takes v (Some a) = 1 + owed_takes a v.live.items
+called_takes v (Some a) = 1 + (owed_takes a v.live.items + says_takes v a)
 
 abbrev pub alarm_takes : View → ℕ
 alarm_takes v = called_takes v (loudest v)
@@ -304,10 +325,22 @@ abbrev pub cues_within : ℕ → List LiveAttempt → ℕ
 cues_within room live =
     if nat_le SHOWN (room_beside_live (room - ALWAYS) live) then SHOWN else room_beside_live (room - ALWAYS) live
 
--- how many cues are shown, if what a relay says takes so many lines
-abbrev pub cues_in : Option ℕ → View → ℕ → ℕ
-cues_in None v taken = SHOWN
-cues_in (Some room) v taken = cues_within (room - taken - alarm_takes v - last_takes v.last) v.live.items
+-- how many cues are shown, if what a relay says takes so many lines, and what devices say of themselves so many
+abbrev pub cues_in : Option ℕ → View → ℕ → ℕ → ℕ
+cues_in None v heard claims = SHOWN
+cues_in (Some room) v heard claims =
+    cues_within (room - heard - claims - alarm_takes v - last_takes v.network.items v.last) v.live.items
+
+-- cues leave room for a few lines of claims, but not the last cue
+abbrev pub cues_beside : Option ℕ → View → ℕ → ℕ → ℕ
+cues_beside room v heard claims =
+    if cues_in room v heard (min claims CLAIMED) == 0 then cues_in room v heard 0
+    else cues_in room v heard (min claims CLAIMED)
+
+-- how many lines of claims have room beside so many others
+abbrev pub claims_within : Option ℕ → ℕ → ℕ → ℕ → ℕ
+claims_within None lines heard claims = claims
+claims_within (Some room) lines heard claims = min claims (room - lines - heard)
 
 -- what a line says of the view
 unfoldable pub said_of : BoardLine → List ℕ

@@ -1,5 +1,6 @@
 pub mod Alarms
 pub mod Board
+pub mod Claims
 pub mod Ends
 pub mod Names
 pub mod Network

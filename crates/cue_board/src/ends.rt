@@ -1,15 +1,17 @@
 //! How an attempt ended, and a line for each of its devices that failed or that it went without.
 ghost use Rattle.std.specs.Prelude.{◌≡◌, ◌-◌, ◌++◌, IfOk, OnOk, map, string_bytes};
+ghost use Rattle.std.specs.List.{flat_map};
 ghost use Rattle.cue_board.specs.Ends as ends;
 ghost use Rattle.cue_board.specs.Board.{said_of};
 
+use crate::claims::{count_said, push_says};
 use crate::line::BoardLine;
 use crate::names::Names;
 use cue_columns::fitted;
 use cue_exchange::{Outcome, Reason};
 use cue_show::DeviceNo;
 use cue_show_file::cue_text;
-use cue_view::view::Told;
+use cue_view::view::{Contacted, Told};
 use cue_words::{outcome_words, reason_words};
 use std::alloc::{AllocError, Global};
 
@@ -120,19 +122,35 @@ fn failed_line(
     Ok(BoardLine::bare(alloc, said))
 }
 
-// Puts the line of each device that failed after the lines.
+// Puts the line of a device that failed after the lines, and why it did, if it says so.
+fn push_one_failed(
+    alloc: Global,
+    lines: &mut Vec<BoardLine>,
+    told: &Told,
+    device: DeviceNo,
+    names: &Names<'_>,
+    network: &[Contacted],
+) -> Result<(), AllocError>
+    ensures { OnOk result (map said_of lines.new.items
+        ≡ map said_of lines.old.items ++ ends.failed_lines names.now network.now told.now device) }
+{
+    lines.push(failed_line(alloc, told.outcome, device, names)?)?;
+    push_says(alloc, lines, network, told.seq, device)
+}
+
+// Puts the lines of each device that failed after the lines.
 fn push_failed(
     alloc: Global,
     lines: &mut Vec<BoardLine>,
-    outcome: Outcome,
-    devices: &[DeviceNo],
+    told: &Told,
     names: &Names<'_>,
+    network: &[Contacted],
 ) -> Result<(), AllocError>
-    ensures { OnOk result (map said_of lines.new.items
-        ≡ map said_of lines.old.items ++ map (ends.failed_said names.now outcome) devices.now) }
+    ensures { OnOk result (map said_of lines.new.items ≡ map said_of lines.old.items
+        ++ flat_map (ends.failed_lines names.now network.now told.now) told.now.failed) }
 {
-    for device in devices {
-        lines.push(failed_line(alloc, outcome, *device, names)?)?;
+    for device in told.failed.as_slice() {
+        push_one_failed(alloc, lines, told, *device, names, network)?;
     }
     Ok(())
 }
@@ -161,20 +179,21 @@ fn push_excused(
     Ok(())
 }
 
-// Puts an attempt that ended after the lines: which one it is, and how it ended; then each device that failed, and each
-// that it went without.
+// Puts an attempt that ended after the lines: which one it is, and how it ended; then each device that failed, with why
+// if it says so, and each that it went without.
 fn push_told(
     alloc: Global,
     lines: &mut Vec<BoardLine>,
     told: &Told,
     names: &Names<'_>,
+    network: &[Contacted],
 ) -> Result<(), AllocError>
-    ensures { OnOk result
-        (map said_of lines.new.items ≡ map said_of lines.old.items ++ ends.told_lines names.now told.now) }
+    ensures { OnOk result (map said_of lines.new.items
+        ≡ map said_of lines.old.items ++ ends.told_lines names.now network.now told.now) }
 {
     let said = told_said(alloc, told, names)?;
     lines.push(BoardLine::bare(alloc, said))?;
-    push_failed(alloc, lines, told.outcome, told.failed.as_slice(), names)?;
+    push_failed(alloc, lines, told, names, network)?;
     push_excused(alloc, lines, told.excused.as_slice(), names)
 }
 
@@ -193,12 +212,13 @@ pub(crate) fn push_last(
     lines: &mut Vec<BoardLine>,
     last: &Option<Told>,
     names: &Names<'_>,
+    network: &[Contacted],
 ) -> Result<(), AllocError>
-    ensures { OnOk result
-        (map said_of lines.new.items ≡ map said_of lines.old.items ++ ends.last_said names.now last.now) }
+    ensures { OnOk result (map said_of lines.new.items
+        ≡ map said_of lines.old.items ++ ends.last_said names.now network.now last.now) }
 {
     match last {
-        Some(told) => push_told(alloc, lines, told, names),
+        Some(told) => push_told(alloc, lines, told, names, network),
         None => {
             lines.push(none_line(alloc)?)?;
             Ok(())
@@ -207,13 +227,14 @@ pub(crate) fn push_last(
 }
 
 /// What that leaves of so many lines.
-pub(crate) fn room_beside_last(room: usize, last: &Option<Told>) -> usize
-    ensures { result ≡ room - ends.last_takes last.now }
+pub(crate) fn room_beside_last(room: usize, last: &Option<Told>, network: &[Contacted]) -> usize
+    ensures { result ≡ room - ends.last_takes network.now last.now }
 {
     let left = room.saturating_sub(1);
     match last {
         Some(told) => left
             .saturating_sub(told.failed.as_slice().len())
+            .saturating_sub(count_said(network, told.seq, told.failed.as_slice()))
             .saturating_sub(told.excused.as_slice().len()),
         None => left,
     }

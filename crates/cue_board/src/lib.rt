@@ -20,16 +20,20 @@
 //! - A line of the log takes up to three lines: the reason stands at its end.
 //! - Which cues stand by together is drawn by the groups that the desk sends by, not by the show file as it is now:
 //!   what is shown beside the next cue is what STANDBY stands by.
+//! - What a device tells of itself has a line of its own that says so, and stands last: it is no fact. Why a device
+//!   aborted stands beside its failure only if it says so of that very attempt. Where devices are comes first, since
+//!   it is of now; the stack gives way for three such lines, and not for the last cue.
 //! - A cue all of whose devices are ready is `held` if GO is dark all the same, as while `serve` does not
 //!   answer.
 //!
-//! Only tested: names and notes, the lines of a log and of a relay. Neither: that a terminal gives a character the
-//! columns that Unicode gives it.
+//! Only tested: names and notes, the lines of a log and of a relay, and which of what devices tell share a line.
+//! Neither: that a terminal gives a character the columns that Unicode gives it.
 #![tactic(auto)]
 
 mod alarms;
 mod board;
 mod brief;
+mod claims;
 mod ends;
 mod faults;
 mod line;
@@ -46,6 +50,7 @@ mod together;
 
 pub use alarms::alarm_words;
 pub use board::board_lines;
+pub use claims::plain_text;
 pub use log::log_lines;
 pub use names::Names;
 pub use network::contact_words;

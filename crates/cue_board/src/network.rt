@@ -1,8 +1,10 @@
-//! When each device of a relay was heard.
-ghost use Rattle.std.specs.Prelude.{◌≡◌, ◌≤◌, ◌↔◌, ◌+◌, ◌-◌, ◌++◌, IfOk, IsTrue, OnOk, length, replicate, string_bytes};
+//! When each device of a relay was heard, and what it told of itself.
+ghost use Rattle.std.specs.Prelude.{◌≡◌, ◌≤◌, ◌↔◌, ◌+◌, ◌-◌, ◌++◌, IfOk, IsTrue, OnOk, length, map, replicate};
+ghost use Rattle.std.specs.Prelude.{string_bytes};
 ghost use Rattle.cue_columns.specs.Columns.{AreFit};
-ghost use Rattle.cue_board.specs.Network as network;
+ghost use Rattle.cue_board.specs.Network as spec;
 
+use crate::claims::claim_texts;
 use crate::line::push_spaces;
 use cue_columns::{COLUMNS, fitted};
 use cue_relay::Motion;
@@ -13,6 +15,9 @@ use std::alloc::{AllocError, Global};
 /// What stands before the first device of a line.
 const HEARD: &str = "HEARD  ";
 
+/// The same of what devices told of themselves.
+const SAYS: &str = "SAYS   ";
+
 /// The room that a device has on its line, in columns.
 const DEVICE: usize = 24;
 
@@ -21,7 +26,7 @@ const APART: usize = 2;
 
 // When it was heard.
 fn when(alloc: Global, heard: LastHeard) -> Result<String, AllocError>
-    ensures { IfOk result (λ text. string_bytes text ≡ network.when heard) }
+    ensures { IfOk result (λ text. string_bytes text ≡ spec.when heard) }
 {
     match heard {
         LastHeard::Never => String::from_str(alloc, "not heard since the relay started"),
@@ -35,7 +40,7 @@ fn when(alloc: Global, heard: LastHeard) -> Result<String, AllocError>
 
 // What a device was sent and has not answered; nothing if it was sent none. Whether it heard that nobody knows.
 fn unanswered(contact: &Contacted) -> &'static str
-    ensures { result.now ≡ network.unanswered contact.now }
+    ensures { result.now ≡ spec.unanswered contact.now }
 {
     if contact.silent {
         return "silent, ";
@@ -50,7 +55,7 @@ fn unanswered(contact: &Contacted) -> &'static str
 
 // Whether it may still move, by a GO that was not its last order.
 fn is_left_moving(motion: Motion, ordered: Option<Ordered>) -> bool
-    ensures { result ≡ network.is_left_moving motion ordered }
+    ensures { result ≡ spec.is_left_moving motion ordered }
 {
     match motion {
         Motion::Moving(_) => !matches!(ordered, Some(Ordered::Go)),
@@ -60,7 +65,7 @@ fn is_left_moving(motion: Motion, ordered: Option<Ordered>) -> bool
 
 // That it may; nothing if not.
 fn may_move(contact: &Contacted) -> &'static str
-    ensures { result.now ≡ network.may_move contact.now }
+    ensures { result.now ≡ spec.may_move contact.now }
 {
     if is_left_moving(contact.motion, contact.ordered) {
         "may still move, "
@@ -72,7 +77,7 @@ fn may_move(contact: &Contacted) -> &'static str
 /// When a device of a relay was heard, which order it was sent and has not answered, or that it is silent; and whether
 /// it may still move by a GO that it was sent before.
 pub fn contact_words(alloc: Global, contact: &Contacted) -> Result<String, AllocError>
-    ensures { IfOk result (λ text. string_bytes text ≡ network.contact_words contact.now) }
+    ensures { IfOk result (λ text. string_bytes text ≡ spec.contact_words contact.now) }
 {
     let (moving, order) = (may_move(contact), unanswered(contact));
     let when = when(alloc, contact.heard)?;
@@ -82,7 +87,7 @@ pub fn contact_words(alloc: Global, contact: &Contacted) -> Result<String, Alloc
 
 // A device with these words.
 fn device_words(alloc: Global, contact: &Contacted) -> Result<String, AllocError>
-    ensures { IfOk result (λ text. string_bytes text ≡ network.device_words contact.now) }
+    ensures { IfOk result (λ text. string_bytes text ≡ spec.device_words contact.now) }
 {
     let words = contact_words(alloc, contact)?;
     format!(in alloc; "{}: {}", contact.device.number(), words.as_str())
@@ -99,7 +104,7 @@ fn has_room(line: &str, words: &str) -> bool
 // Puts the spaces before the next device after a line, on which the last one begins there.
 fn push_gap(line: &mut String, begun: usize) -> Result<(), AllocError>
     ensures { OnOk result (string_bytes line.new
-        ≡ string_bytes line.old ++ replicate (network.gap (length (string_bytes line.old) - begun)) 32) }
+        ≡ string_bytes line.old ++ replicate (spec.gap (length (string_bytes line.old) - begun)) 32) }
 {
     let taken = line.len().saturating_sub(begun);
     let gap = DEVICE.saturating_sub(taken).max(APART);
@@ -117,24 +122,51 @@ fn push_line(alloc: Global, lines: &mut Vec<String>, line: &str) -> Result<(), A
     Ok(())
 }
 
-/// When each device of a relay was heard, as many devices a line as fit, with two columns between them at least.
-pub(crate) fn heard_lines(alloc: Global, network: &[Contacted]) -> Result<Vec<String>, AllocError>
+// Texts in lines with this front: as many a line as fit, with two columns between them at least.
+fn packed(alloc: Global, front: &str, texts: &[String]) -> Result<Vec<String>, AllocError>
     ensures { IfOk result (λ lines. AreFit lines.items) }
 {
     let mut lines = Vec::new(alloc);
-    let mut line = String::from_str(alloc, HEARD)?;
-    for contact in network {
-        let words = device_words(alloc, contact)?;
-        if !has_room(line.as_str(), words.as_str()) {
+    let mut line = String::from_str(alloc, front)?;
+    for text in texts {
+        if line.len() > front.len() && !has_room(line.as_str(), text.as_str()) {
             push_line(alloc, &mut lines, line.as_str())?;
-            line = String::from_str(alloc, HEARD)?;
+            line = String::from_str(alloc, front)?;
         }
         let begun = line.len();
-        line.push_str(words.as_str())?;
+        line.push_str(text.as_str())?;
         push_gap(&mut line, begun)?;
     }
-    if !network.is_empty() {
+    if !texts.is_empty() {
         push_line(alloc, &mut lines, line.as_str())?;
     }
     Ok(lines)
+}
+
+// When each device of a relay was heard.
+fn heard_texts(alloc: Global, network: &[Contacted]) -> Result<Vec<String>, AllocError>
+    ensures { IfOk result
+        (λ texts. map string_bytes texts.items ≡ map spec.device_words network.now) }
+{
+    let mut texts = Vec::with_capacity(alloc, network.len())?;
+    for contact in network {
+        texts.push(device_words(alloc, contact)?)?;
+    }
+    Ok(texts)
+}
+
+/// When each device of a relay was heard, as many devices a line as fit.
+pub(crate) fn heard_lines(alloc: Global, network: &[Contacted]) -> Result<Vec<String>, AllocError>
+    ensures { IfOk result (λ lines. AreFit lines.items) }
+{
+    let texts = heard_texts(alloc, network)?;
+    packed(alloc, HEARD, &texts)
+}
+
+/// What devices told of themselves, as much of it a line as fits.
+pub(crate) fn claim_lines(alloc: Global, network: &[Contacted]) -> Result<Vec<String>, AllocError>
+    ensures { IfOk result (λ lines. AreFit lines.items) }
+{
+    let texts = claim_texts(alloc, network)?;
+    packed(alloc, SAYS, &texts)
 }

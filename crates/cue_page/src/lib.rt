@@ -17,6 +17,9 @@
 //! - When a device was heard is put where it stands, and its row is not made again: words that change each second would
 //!   else take away the button that is being pressed. A screen reader says when a device falls silent, and not each
 //!   second.
+//! - What a device tells of itself is said to be told by it, wherever it stands, and decides nothing: no button, no
+//!   alarm and no sound. No live region has its position, which changes with each view; a screen reader hears the
+//!   reason of a failure once, with the failure.
 //! - Move here and Release ask once more, a second press within three seconds: both are small buttons beside a finger
 //!   that scrolls, and neither can be taken back. So does the key R, which releases a device only if GO waits for that
 //!   one alone: which one it is, and what comes of it, stands in words before the second press.

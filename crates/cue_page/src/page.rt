@@ -1,5 +1,6 @@
 //! The page itself: one text of HTML with its styles and its scripts, and nothing from anywhere else.
 mod alarms;
+mod claims;
 mod controls;
 mod drawing;
 mod elements;
@@ -21,6 +22,7 @@ mod windows;
 
 use alarms::ALARMS;
 use base64::engine::general_purpose::STANDARD;
+use claims::CLAIMS;
 use controls::CONTROLS;
 use drawing::DRAWING;
 use elements::ELEMENTS;
@@ -46,8 +48,8 @@ use windows::WINDOWS;
 const STYLES: [&str; 4] = [THEMES, STYLE, CONTROLS, SMALL];
 
 /// The scripts, in order: what one does at once stands in those before it.
-const SCRIPTS: [&str; 15] = [
-    ELEMENTS, WINDOWS, STACK, FINDING, LIVE, MOVING, TIMES, ALARMS, GREAT, LINES, SETTINGS,
+const SCRIPTS: [&str; 16] = [
+    ELEMENTS, WINDOWS, STACK, FINDING, LIVE, MOVING, CLAIMS, TIMES, ALARMS, GREAT, LINES, SETTINGS,
     SOUNDING, LOCKING, DRAWING, PRESSING,
 ];
 

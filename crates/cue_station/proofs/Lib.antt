@@ -3,6 +3,7 @@ mod LoudnessLemmas
 mod PressLemmas
 mod SeeingLemmas
 mod ButtonLemmas
+mod ClaimLemmas
 mod LitLemmas
 mod TimeLemmas
 mod FailureLemmas

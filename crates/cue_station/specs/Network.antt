@@ -1,12 +1,14 @@
 -- What a relay says of its devices, by the clock that never goes back.
-use Rattle.std.specs.Prelude.{◌-◌, ◌+◌, ◌^◌, min, ℕ, Bool, true, false, if◌then◌else◌, List, [], ◌∷◌, map}
+use Rattle.std.specs.Prelude.{◌-◌, ◌+◌, ◌^◌, ◌&&◌, min, ℕ, Bool, true, false, if◌then◌else◌, List, [], ◌∷◌, map}
 use Rattle.std.specs.Prelude.{Option, None, Some, nat_eq, nat_le}
 use Rattle.std.specs.Option.{option_map}
+use Rattle.cue_relay.specs.declared.claims.Claims.{Claims}
+use Rattle.cue_relay.specs.declared.claims.Position.{Position}
 use Rattle.cue_relay.specs.declared.status.Seen.{Seen}
 use Rattle.cue_relay.specs.declared.status.Status.{Status}
 use Rattle.cue_station.specs.declared.heard.Heard.{Heard}
 use Rattle.cue_station.specs.declared.heard.Heard.TheVariants as heard
-use Rattle.cue_station.specs.declared.limits.TheConstants.{RELAY_MS}
+use Rattle.cue_station.specs.declared.limits.TheConstants.{POSITION_MS, RELAY_MS}
 use Rattle.cue_station.specs.declared.memory.Relayed.{Relayed}
 use Rattle.cue_view.specs.declared.view.Contacted.{Contacted}
 use Rattle.cue_view.specs.declared.view.LastHeard.{LastHeard}
@@ -56,6 +58,23 @@ abbrev pub last_heard : Option ℕ → ℕ → ℕ → LastHeard
 last_heard None now age = last.Never
 last_heard (Some h) now age = if nat_le h now then last.Ago (min (now - h + age) (2 ^ 64 - 1)) else last.Unknown
 
+-- a position is of the last two seconds, and of no time that is still to come
+abbrev pub is_of_now : ℕ → ℕ → ℕ → Bool
+is_of_now now age told = nat_le told now && nat_le (now - told + age) POSITION_MS
+
+-- where a device told that it is, as long as that is shown
+abbrev pub position_shown : ℕ → ℕ → Option Position → Option Position
+position_shown now age None = None
+position_shown now age (Some p) = if is_of_now now age p.told then Some p else None
+
+-- what it told of itself, as it is shown
+abbrev pub claims_shown : ℕ → ℕ → Claims → Claims
+claims_shown now age c = record {
+  reason = c.reason;
+  position = position_shown now age c.position;
+  identity = c.identity;
+}
+
 -- a device as it is shown
 abbrev pub contacted : ℕ → ℕ → Seen → Contacted
 contacted now age s = record {
@@ -64,6 +83,7 @@ contacted now age s = record {
   ordered = s.ordered;
   motion = s.motion;
   silent = s.silent;
+  claims = claims_shown now age s.claims;
 }
 
 abbrev pub contacts : ℕ → Status → List Contacted

@@ -1,13 +1,14 @@
 -- What the alarms come to, in single facts.
-use Rattle.std.specs.Prelude.{◌≡◌, ◌≤◌, ℕ, Bool, true, false, not, List, [], ◌∷◌, All}
+use Rattle.std.specs.Prelude.{◌≡◌, ◌≤◌, ℕ, Bool, true, false, not, List, [], ◌∷◌, All, map, Option, None}
 use Rattle.std.specs.List.{list_any}
 use Rattle.cue_station.specs.declared.alarms.Facts.{Facts}
 use Rattle.cue_station.specs.declared.limits.TheConstants.{STATUS_MS}
+use Rattle.cue_station.specs.declared.memory.Reading.{Reading}
 use Rattle.cue_view.specs.declared.view.Alarm.{Alarm}
 use Rattle.cue_view.specs.declared.view.Alarm.TheVariants as alarm
 use Rattle.cue_view.specs.declared.view.Contacted.{Contacted}
 use Rattle.cue_view.specs.Sight.{is_age}
-use Rattle.cue_station.specs.Alarms.{alarms_by, is_in_sight, is_within}
+use Rattle.cue_station.specs.Alarms.{alarms_by, awaited_by, is_in_sight, is_within}
 
 -- nobody answers at the port
 abbrev pub is_silence : Alarm → Bool
@@ -49,3 +50,21 @@ abbrev pub LoudestFirst : Type 0
 LoudestFirst =
     (f : Facts) (back failures : List ℕ) (network : List Contacted)
     → IsLoudestFirst (alarms_by f back failures network)
+
+-- what the relay says of a device, without what the device told of itself
+abbrev pub unclaimed : Contacted → Contacted
+unclaimed c = record {
+  device = c.device;
+  heard = c.heard;
+  ordered = c.ordered;
+  motion = c.motion;
+  silent = c.silent;
+  claims = record { reason = None; position = None; identity = None };
+}
+
+-- whatever devices tell of themselves, the alarms are the same
+abbrev pub ClaimsRaiseNoAlarm : Type 0
+ClaimsRaiseNoAlarm =
+    (f : Facts) (back failures : List ℕ) (reading : Option Reading) (network : List Contacted)
+    → alarms_by f back failures (awaited_by reading (map unclaimed network))
+    ≡ alarms_by f back failures (awaited_by reading network)

@@ -234,15 +234,23 @@ pub fn awaited_by(
     }
 }
 
+// Of what the relay says, that of the devices that it calls silent.
+fn silent_of(alloc: Global, network: &[Contacted]) -> Result<Vec<Contacted>, AllocError>
+    ensures { IfOk result (λ v. v.items ≡ filter (λ c. c.silent) network.now) }
+{
+    network
+        .iter()
+        .copied()
+        .filter(|contact| contact.silent)
+        .collect(alloc)
+}
+
 // The devices that the relay calls silent.
 fn silent_in(alloc: Global, network: &[Contacted]) -> Result<Vec<DeviceNo>, AllocError>
     ensures { IfOk result (λ devices. devices.items ≡ alarms.silent_in network.now) }
 {
-    network
-        .iter()
-        .filter(|contact| contact.silent)
-        .map(|contact| contact.device)
-        .collect(alloc)
+    let silent = silent_of(alloc, network)?;
+    silent.iter().map(|contact| contact.device).collect(alloc)
 }
 
 // Puts the alarm after the others, if there is one.

@@ -5,7 +5,8 @@ ghost use Rattle.cue_station.specs.Readings.{AfterGoNothing, DeadlineIsDark, Fai
 ghost use Rattle.cue_station.specs.Readings.{NoCueAfterEnd, OutOfSightIsDark};
 ghost use Rattle.cue_station.specs.declared.limits.TheConstants.{ASK_AGAIN_MS, ASK_MS, COPY_MS, KEPT_FAILURES};
 ghost use Rattle.cue_station.specs.declared.limits.TheConstants.{KEPT_SEEN, KEPT_VIEWS, MAX_TOLD, OTHER_MS};
-ghost use Rattle.cue_station.specs.declared.limits.TheConstants.{PRESS_MS, RELAY_MS, SHOWN_MS, STATUS_MS, TAP_MS};
+ghost use Rattle.cue_station.specs.declared.limits.TheConstants.{POSITION_MS, PRESS_MS, RELAY_MS, SHOWN_MS};
+ghost use Rattle.cue_station.specs.declared.limits.TheConstants.{STATUS_MS, TAP_MS};
 
 /// Without a place a cue is next only if none was given, and if the events tell of every attempt.
 pub fn no_cue_after_the_end()
@@ -56,11 +57,11 @@ pub fn other_cue_is_refused()
 {}
 
 /// What the desk stands by, in milliseconds: a copy for 1,000, a status for 2,000, a view for a press for 1,000.
-/// Another store is named after 1,000, a relay has stopped after 2,000. A press may name one of the newest 128 views, 8
-/// attempts are told as ended, and of 64 attempts in a row each keeps that it was seen. Of what went wrong, and nobody
-/// has seen, 64 attempts are kept that the newest copy no longer tells of. A GO within 1,000 of another is its second
-/// tap, and a press that was made is shown by the store within 1,000. The status is asked 100 after a question that was
-/// answered, and 500 after one that was not.
+/// Another store is named after 1,000, a relay has stopped after 2,000, and a position is shown for 2,000. A press may
+/// name one of the newest 128 views, 8 attempts are told as ended, and of 64 attempts in a row each keeps that it was
+/// seen. Of what went wrong, and nobody has seen, 64 attempts are kept that the newest copy no longer tells of. A GO
+/// within 1,000 of another is its second tap, and a press that was made is shown by the store within 1,000. The status
+/// is asked 100 after a question that was answered, and 500 after one that was not.
 pub fn limits()
     ensures copy { COPY_MS ≡ 1000 }
     ensures status { STATUS_MS ≡ 2000 }
@@ -69,6 +70,7 @@ pub fn limits()
     ensures told { MAX_TOLD ≡ 8 }
     ensures other { OTHER_MS ≡ 1000 }
     ensures relay { RELAY_MS ≡ 2000 }
+    ensures position { POSITION_MS ≡ 2000 }
     ensures seen { KEPT_SEEN ≡ 64 }
     ensures failures { KEPT_FAILURES ≡ 64 }
     ensures tap { TAP_MS ≡ 1000 }

@@ -19,7 +19,8 @@
 //!   safe way: also of the cue whose GO is open, as long as the store has it prepare.
 //! - That a press was carried out is said once a copy of the store shows it: until then the reply alone says so, and a
 //!   program that holds the port can say the same. What no copy shows within a second is an alarm.
-//! - A GO within a second of a GO that was sent is the second tap of one finger. It is not sent, and said to be that.
+//! - A GO within a second of a GO of the same attempt that was sent is the second tap of one finger. It is not sent, and
+//!   said to be that.
 //! - That a STANDBY was made is said while its cue stands by. Once it was given up, or has ended, that is said.
 //! - What came to a socket before it was opened is nothing; the answer of a press is the first that comes after it was
 //!   sent.

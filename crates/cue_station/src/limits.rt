@@ -34,6 +34,9 @@ pub const OTHER_MS: u64 = 1_000;
 /// How long a relay has to write nothing new before it counts as stopped, in milliseconds.
 pub const RELAY_MS: u64 = 2_000;
 
+/// For how long it is shown where a device told that it is, in milliseconds.
+pub const POSITION_MS: u64 = 2_000;
+
 /// How soon after a GO another one is the second tap of one finger, in milliseconds.
 pub const TAP_MS: u64 = 1_000;
 

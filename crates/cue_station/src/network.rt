@@ -3,8 +3,9 @@ ghost use Rattle.std.specs.Prelude.{◌≡◌, ◌-◌, IfOk};
 ghost use Rattle.std.specs.Option.{option_copied};
 ghost use Rattle.cue_station.specs.Network as network;
 
-use crate::limits::RELAY_MS;
+use crate::limits::{POSITION_MS, RELAY_MS};
 use cue_relay::status::{Seen, Status};
+use cue_relay::{Claims, Position};
 use cue_view::view::{Contacted, LastHeard};
 use std::alloc::{AllocError, Global};
 
@@ -27,6 +28,35 @@ fn last_heard(heard: Option<u64>, now: u64, age: u64) -> LastHeard
     }
 }
 
+// Whether a position is shown that was told at that time by the clock of the relay: it is two seconds old at most, and
+// not of a time that is still to come.
+fn is_of_now(told: u64, now: u64, age: u64) -> bool
+    ensures { result ≡ network.is_of_now now age told }
+{
+    told <= now && (now - told).saturating_add(age) <= POSITION_MS
+}
+
+// The position, if it is shown.
+fn position_shown(position: Option<Position>, now: u64, age: u64) -> Option<Position>
+    ensures { result ≡ network.position_shown now age position }
+{
+    match position {
+        Some(position) if is_of_now(position.told, now, age) => Some(position),
+        _ => None,
+    }
+}
+
+// What a device told of itself, as it is shown.
+fn claims_shown(claims: &Claims, now: u64, age: u64) -> Claims
+    ensures { result ≡ network.claims_shown now age claims.now }
+{
+    Claims {
+        reason: claims.reason,
+        position: position_shown(claims.position, now, age),
+        identity: claims.identity,
+    }
+}
+
 // What the relay says of one device.
 fn contacted(seen: &Seen, now: u64, age: u64) -> Contacted
     ensures { result ≡ network.contacted now age seen.now }
@@ -37,6 +67,7 @@ fn contacted(seen: &Seen, now: u64, age: u64) -> Contacted
         ordered: seen.ordered,
         motion: seen.motion,
         silent: seen.silent,
+        claims: claims_shown(&seen.claims, now, age),
     }
 }
 

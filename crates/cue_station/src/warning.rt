@@ -1,5 +1,5 @@
 //! What the alarms come to. Each contract is a theorem; there is nothing to run.
-ghost use Rattle.cue_station.specs.Warning.{AgeIsSaid, LoudestFirst, SilenceIsSaid};
+ghost use Rattle.cue_station.specs.Warning.{AgeIsSaid, ClaimsRaiseNoAlarm, LoudestFirst, SilenceIsSaid};
 
 /// There is an alarm of silence exactly if no status of now is answered.
 pub fn silence_is_said()
@@ -14,4 +14,9 @@ pub fn age_is_said()
 /// No alarm is louder than one before it.
 pub fn loudest_first()
     ensures { LoudestFirst }
+{}
+
+/// Whatever devices tell of themselves, the same is wrong. What is lit is made of nothing that a relay says.
+pub fn claims_raise_no_alarm()
+    ensures { ClaimsRaiseNoAlarm }
 {}

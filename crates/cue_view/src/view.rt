@@ -3,8 +3,8 @@ ghost use Rattle.std.specs.Prelude.{◌≡◌};
 
 use crate::button::Button;
 use cue_exchange::{Answers, Outcome, Reason, Stage};
-use cue_relay::Motion;
 use cue_relay::status::Ordered;
+use cue_relay::{Claims, Motion};
 use cue_show::{CueNo, DeviceNo};
 use std::marker::Model;
 
@@ -190,6 +190,9 @@ pub struct Contacted {
     pub motion: Motion,
     /// Whether the relay calls it silent.
     pub silent: bool,
+    /// What it told of itself last. That is shown as told by it, and nothing is decided by it. Its position is one of
+    /// the last two seconds.
+    pub claims: Claims,
 }
 
 /// What is shown.

@@ -8,7 +8,8 @@ let spoken = "";
 function endWords(told) {
   const failed = failedWords(told.failed, told.outcome === "failed", told.attempt);
   const without = told.excused.length ? " without device " + devicesWords(told.excused) : "";
-  return cueWords(told) + ": " + told.outcome + (told.reason ? ": " + told.reason : "") + failed + without;
+  return cueWords(told) + ": " + told.outcome + (told.reason ? ": " + told.reason : "") + failed
+    + saysWords(told.failed, told.attempt) + without;
 }
 
 // That nobody stands by for a cue any more, and why.
@@ -16,12 +17,12 @@ const lostWords = (attempt) => " lost its standby" + (attempt.reason ? ": " + at
 
 // What goes wrong in a cue that is live: the others of its devices may still move.
 function faultWords(attempt) {
-  const failed = attempt.devices.filter((one) => one.answer === "failed").map((one) => one.device);
+  const failed = failedOf(attempt);
   const fault = attempt.reason ? lostWords(attempt) : " fails", waits = waitedFor(attempt);
   const owes = attempt.stage === "given up" ? "; has not let go: device " : "; still waiting for device ";
   const rest = waits.length ? owes + devicesWords(waits) : "", isGiven = attempt.stage === "given";
   const did = failedWords(failed, isGiven, attempt.attempt) + (isUnknown(failed, isGiven) ? UNKNOWN : "");
-  return cueWords(attempt) + fault + did + rest;
+  return cueWords(attempt) + fault + did + saysWords(failed, attempt.attempt) + rest;
 }
 
 // What may move by itself once what is missing is back: a cue that was given waits for it. Some of it may have moved
@@ -44,7 +45,7 @@ function owedWords(kind, isOf) {
 // What went wrong in a cue that has ended.
 function failureWords(told) {
   if (told.outcome === "cancelled") return cueWords(told) + lostWords(told)
-    + failedWords(told.failed, false, told.attempt);
+    + failedWords(told.failed, false, told.attempt) + saysWords(told.failed, told.attempt);
   return endWords(told) + (isUnknown(told.failed, told.outcome === "failed") ? UNKNOWN : "");
 }
 
@@ -105,7 +106,7 @@ function showEnds() {
   at("last").className = view.last && view.last.outcome === "failed" ? "failed" : "";
   at("history").hidden = !view.past.length;
   place("past", () => view.past.map((told) => make("li", told.outcome === "failed" ? "bad" : "", endWords(told))),
-    JSON.stringify([view.past, movingNow(), renamed]));
+    JSON.stringify([view.past, movingNow(), renamed, view.past.map((told) => saysWords(told.failed, told.attempt))]));
 }
 
 // Without the seconds, which change with each view.

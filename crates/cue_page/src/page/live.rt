@@ -108,6 +108,7 @@ function attemptCard(attempt) {
   card.append(titleOf(attempt));
   if (attempt.given !== null) card.append(sinceLine(attempt));
   if (waits.length) card.append(make("p", "waits", "\u2026 waiting for " + devicesWords(waits)));
+  card.append(...saysLines(attempt));
   if (isOpen(attempt)) card.append(secondsBar(attempt), choice(attempt));
   card.append(deviceTable(attempt));
   return card;
@@ -121,7 +122,8 @@ function liveCards() {
 
 function showLive() {
   const live = view.live.map((attempt) => ({ ...attempt, left: 0, given: attempt.given !== null }));
-  const lit = [isHeld(), view.lit, sure.press, renamed, own, view.live.map(stageWords), view.live.map(isGoing)];
+  const lit = [isHeld(), view.lit, sure.press, renamed, own, view.live.map(stageWords), view.live.map(isGoing),
+    view.live.map((one) => saysWords(failedOf(one), one.attempt))];
   place("live", liveCards, JSON.stringify([live, view.chosen, view.network.length > 0, lit]));
 }
 "#;

@@ -68,6 +68,7 @@ function take(told, asked) {
   heard = asked;
   followChoice();
   followMoving();
+  followWays();
   followBefore();
   takeNames(told.names);
   if (now() > sure.until) sure = { press: "", until: 0 };

@@ -110,6 +110,10 @@ td.heard, td.silent { font-size: .9rem; }
   grid-template-columns: repeat(auto-fill, minmax(min(17rem, 100%), 1fr)); }
 #heard li { display: grid; grid-template-columns: 2.4rem 1fr auto; gap: .4rem; border-top: 1px solid var(--line); }
 .heard { color: var(--soft); } .silent { color: var(--red); font-weight: 700; }
+.says { color: var(--soft); overflow-wrap: anywhere; }
+#heard .says { grid-column: 2 / -1; padding-bottom: .2rem; }
+.says .progress { height: .45rem; margin-top: .15rem; }
+.says .progress i { background: var(--blue); }
 .empty { color: var(--soft); margin: .4rem 0; }
 .hidden { position: absolute; width: 1px; height: 1px; overflow: hidden; clip-path: inset(50%); }
 "#;

@@ -19,10 +19,11 @@ function showSeconds(attempt) {
   if (attempt.given !== null) write("since-" + attempt.attempt, seconds(attempt.given) + " s");
 }
 
-function showHeard(cell, contact) {
+// `more`: what is said after it.
+function showHeard(cell, contact, more) {
   if (!cell) return;
   cell.className = contact && contact.silent ? "silent" : "heard";
-  const words = !contact ? "" : contact.silent ? "\u2715 " + contact.heard : contact.heard;
+  const words = !contact ? "" : (contact.silent ? "\u2715 " : "") + contact.heard + more;
   if (cell.textContent !== words) cell.textContent = words;
 }
 
@@ -35,16 +36,20 @@ const contactBeside = (one) => isPassed(contactOf(one.device), one.answer) ? und
 function heardLine(contact) {
   const line = make("li"), words = make("span");
   words.id = "heard-" + contact.device;
-  line.append(make("span", "number", contact.device), make("span", "", deviceName(contact.device)), words);
+  line.append(make("span", "number", contact.device), make("span", "", deviceName(contact.device)), words,
+    claimsBox(contact));
   return line;
 }
 
 function showNetwork() {
   at("network").hidden = !view.network.length;
   place("heard", () => view.network.map(heardLine), JSON.stringify([view.network.map((one) => one.device), renamed]));
-  for (const contact of view.network) showHeard(at("heard-" + contact.device), contact);
+  for (const contact of view.network) {
+    showHeard(at("heard-" + contact.device), contact, "");
+    showClaims(contact);
+  }
   for (const attempt of view.live) for (const one of attempt.devices)
-    showHeard(at("heard-" + attempt.attempt + "-" + one.device), contactBeside(one));
+    showHeard(at("heard-" + attempt.attempt + "-" + one.device), contactBeside(one), saysWhere(contactBeside(one)));
 }
 
 // Who is silent, before it is long enough to be an alarm: the desk itself, else the controller and the relay.

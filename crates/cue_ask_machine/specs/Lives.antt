@@ -14,6 +14,9 @@ use Rattle.cue_ask_machine.specs.declared.stage.Stage.{Stage}
 use Rattle.cue_ask_machine.specs.declared.stage.Stage.TheVariants as stage
 use Rattle.cue_ask_machine.specs.Answers.{answer_to}
 use Rattle.cue_ask_machine.specs.Letters.{IsLetterOf}
+use Rattle.cue_ask_machine.specs.Naming.{IsUnnamable}
+use Rattle.cue_desk.specs.Asks.{IsUnwritable}
+use Rattle.cue_desk.specs.Together.{message_with}
 use Rattle.cue_ask_machine.specs.Stages.{end_of, second_after}
 use Rattle.cue_ask_machine.specs.Steps.{IsNameFor, Steps, after_loss, bytes_of, decides, home, is_over, message_given}
 use Rattle.cue_ask_machine.specs.Steps.{sends, text_of, wakes}
@@ -27,6 +30,10 @@ pub record IsOf (q : Question) (m : AskMachine) : Type 0 where
   pub letter : IsLetterOf q.order q.others.now m.letter
   pub name : IsNameFor q.order (text_of q.name) (bytes_of m.name)
   pub port : m.port ≡ q.port
+
+-- OSC has no datagram for its message, or none for who asks
+abbrev pub IsUnaskable : Question → Type 0
+IsUnaskable q = IsUnwritable (message_with q.order q.others.now) ⊎ IsUnnamable (text_of q.name)
 
 -- nothing was done yet
 abbrev pub IsNew : AskMachine → Type 0

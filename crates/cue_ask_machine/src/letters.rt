@@ -1,7 +1,9 @@
 //! What is sent with one message, and what its answer is read by.
-ghost use Rattle.std.specs.Prelude.{◌≡◌, IfOk, Ok};
+ghost use Rattle.std.specs.Prelude.{◌≡◌, IfOk, IsErrOf, Ok};
 ghost use Rattle.cue_osc.specs.Reading.{datagram_at};
+ghost use Rattle.cue_desk.specs.Asks.{IsUnwritable};
 ghost use Rattle.cue_desk.specs.Together.{message_with};
+ghost use Rattle.cue_desk.specs.declared.asking.AskFault.TheVariants.{Unwritable};
 ghost use Rattle.cue_ask_machine.specs.Letters.{IsLetterOf};
 ghost use Rattle.cue_ask_machine.specs.Letters as letter;
 
@@ -61,6 +63,7 @@ pub fn letter_with(
     ensures asks { let said = message_with order others.now in
         IfOk result (λ letter. datagram_at letter.message.items ≡ Ok said) }
     ensures letter { IfOk result (λ letter. IsLetterOf order others.now letter) }
+    ensures unwritable { IsErrOf result Unwritable → IsUnwritable (message_with order others.now) }
 {
     let mut shown = address_with(alloc, order, others)?;
     shown.truncate(SHOWN);

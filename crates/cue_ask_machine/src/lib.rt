@@ -4,8 +4,8 @@
 //! A *letter* is the one message of a command, and what its reply is known by. The desk sends its letters from sockets
 //! of its own (`cue_desk_run`) by `send_letter`, and reads what comes by the same `Letter::answer_in`.
 //!
-//! A command that is typed is a life of `AskMachine`: it says who asks, if there is a name, sends the message, and waits
-//! a second for its reply. What a step gives, and what comes after it, stands in `specs/Steps.antt`; `ask` says what a
+//! A command that is typed is a life of `AskMachine`: it says who asks, if there is a name and
+//! more than the status is asked, sends the message, and waits a second for its reply. What a step gives, and what comes after it, stands in `specs/Steps.antt`; `ask` says what a
 //! whole life sends and tells, and `laws` what no life does.
 //!
 //! Why it is so:

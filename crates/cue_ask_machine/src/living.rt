@@ -1,6 +1,7 @@
 //! A whole life of a question.
-ghost use Rattle.std.specs.Prelude.{◌≡◌, IfOk, OnErr};
-ghost use Rattle.cue_ask_machine.specs.Lives.{Asked, IsNew, Ran};
+ghost use Rattle.std.specs.Prelude.{◌≡◌, IfOk, IsErrOf, OnErr};
+ghost use Rattle.cue_ask_machine.specs.Lives.{Asked, IsNew, IsUnaskable, Ran};
+ghost use Rattle.cue_desk.specs.declared.asking.AskFault.TheVariants.{Unwritable};
 
 use crate::machine::AskMachine;
 use crate::question::Question;
@@ -52,7 +53,7 @@ pub fn run<E: Ears, P: Post>(
 }
 
 /// Asks one thing of the controller, once: how that ended; none if nothing could be heard any more, or memory ran out
-/// once it was sent.
+/// once it was sent. `Unwritable` if OSC has no datagram for what is asked, or for who asks.
 pub fn ask<E: Ears, P: Post>(
     alloc: Global,
     question: &Question<'_>,
@@ -63,6 +64,7 @@ pub fn ask<E: Ears, P: Post>(
         (P.left post.new)) }
     ensures untold { OnErr result (E.told ears.new ≡ E.told ears.old) }
     ensures unsent { OnErr result (P.left post.new ≡ P.left post.old) }
+    ensures unwritable { IsErrOf result Unwritable → IsUnaskable question.now }
 {
     let mut machine = AskMachine::new(alloc, question)?;
     let _ = run(alloc, &mut machine, ears, post)?;

@@ -1,9 +1,11 @@
 //! A question as a machine.
-ghost use Rattle.std.specs.Prelude.{◌≡◌, ◌++◌, ◌∷◌, [], IfOk, OnOk};
+ghost use Rattle.std.specs.Prelude.{◌≡◌, ◌++◌, ◌∷◌, [], IfOk, IsErrOf, OnOk};
 ghost use Rattle.cue_machine.specs.Hearing.{heard_as};
-ghost use Rattle.cue_ask_machine.specs.Lives.{IsOf, IsNew};
+ghost use Rattle.cue_ask_machine.specs.Lives.{IsNew, IsOf, IsUnaskable};
+ghost use Rattle.cue_ask_machine.specs.Naming.{IsUnnamable};
 ghost use Rattle.cue_ask_machine.specs.Stages.{end_of};
 ghost use Rattle.cue_ask_machine.specs.Steps as step;
+ghost use Rattle.cue_desk.specs.declared.asking.AskFault.TheVariants.{Unwritable};
 
 use crate::letters::{Letter, is_status, letter_with};
 use crate::naming::name_datagram;
@@ -88,7 +90,8 @@ fn name_for(
     order: DeskCommand,
     name: Option<&[u8]>,
 ) -> Result<Option<Vec<u8>>, AskFault>
-    ensures { IfOk result (λ said. step.IsNameFor order (step.text_of name.entry) (step.bytes_of said)) }
+    ensures named { IfOk result (λ said. step.IsNameFor order (step.text_of name.entry) (step.bytes_of said)) }
+    ensures unwritable { IsErrOf result Unwritable → IsUnnamable (step.text_of name.entry) }
 {
     match name {
         Some(name) => {
@@ -103,10 +106,11 @@ fn name_for(
 }
 
 impl AskMachine {
-    /// The machine of a question, which has done nothing yet.
+    /// The machine of a question, which has done nothing yet. `Unwritable` if OSC has no datagram for it.
     pub fn new(alloc: Global, question: &Question<'_>) -> Result<AskMachine, AskFault>
         ensures of { IfOk result (λ machine. IsOf question.now machine) }
         ensures fresh { IfOk result (λ machine. IsNew machine) }
+        ensures unwritable { IsErrOf result Unwritable → IsUnaskable question.now }
     {
         let letter = letter_with(alloc, 0, question.order, question.others)?;
         let name = name_for(alloc, question.order, question.name)?;

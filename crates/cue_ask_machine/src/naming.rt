@@ -1,8 +1,10 @@
 //! The message by which a socket says who asks from it.
-ghost use Rattle.std.specs.Prelude.{IfOk};
-ghost use Rattle.cue_ask_machine.specs.Naming.{SaysWho};
+ghost use Rattle.std.specs.Prelude.{IfOk, IsErrOf};
+ghost use Rattle.cue_ask_machine.specs.Naming.{SaysWho, name_message};
+ghost use Rattle.cue_desk.specs.Asks.{IsUnwritable};
+ghost use Rattle.cue_desk.specs.declared.asking.AskFault.TheVariants.{Unwritable};
 
-use cue_desk::asking::AskFault;
+use cue_desk::asking::{AskFault, datagram_of};
 use cue_osc::{Args, Message, Packet};
 use std::alloc::Global;
 
@@ -10,7 +12,8 @@ use std::alloc::Global;
 /// refuses it, since it knows no such method, and so its log has the name beside the port. If it is called, the name
 /// is one that `AskerName` reads: no sign in it means anything to OSC.
 pub fn name_datagram(alloc: Global, name: &[u8]) -> Result<Vec<u8>, AskFault>
-    ensures { IfOk result (λ bytes. SaysWho name.now bytes.items) }
+    ensures says { IfOk result (λ bytes. SaysWho name.now bytes.items) }
+    ensures unwritable { IsErrOf result Unwritable → IsUnwritable (name_message name.now) }
 {
     let mut address = Vec::from_slice(alloc, b"/as/")?;
     address.extend_from_slice(name)?;
@@ -18,8 +21,5 @@ pub fn name_datagram(alloc: Global, name: &[u8]) -> Result<Vec<u8>, AskFault>
         address: &address,
         args: Args::from_vec(Vec::new(alloc)),
     });
-    if !packet.plain() {
-        return Err(AskFault::Unwritable);
-    }
-    Ok(cue_osc::write(alloc, &packet)?)
+    datagram_of(alloc, &packet)
 }

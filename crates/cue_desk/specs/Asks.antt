@@ -1,11 +1,12 @@
 -- What the desk asks for, and which bytes ask for it.
-use Rattle.std.specs.Prelude.{◌≡◌, ℕ, ℤ, pos, Bool, true, false, List, [], ◌∷◌, Ok}
+use Rattle.std.specs.Prelude.{◌≡◌, ◌<◌, ℕ, ℤ, pos, Bool, true, false, List, [], ◌∷◌, Ok, length}
 use Rattle.cue_show.specs.declared.part.Part.{Part}
-use Rattle.cue_osc.specs.declared.fault.WriteFault.{WriteFault}
-use Rattle.cue_osc.specs.declared.fault.WriteFault.TheVariants as write
 use Rattle.cue_osc.specs.Argument.{Argument, int, text, blob}
-use Rattle.cue_osc.specs.Content.{message}
+use Rattle.cue_osc.specs.Content.{Content, message}
+use Rattle.cue_osc.specs.Plain.{IsPlain}
 use Rattle.cue_osc.specs.Reading.{datagram_at}
+use Rattle.cue_osc.specs.Writing.{text_of}
+use Rattle.cue_osc.specs.declared.limits.TheConstants.{MAX_LEN}
 use Rattle.cue_core.specs.Judge.{is_fit}
 use Rattle.cue_core.specs.declared.command.Command.{Command}
 use Rattle.cue_core.specs.declared.command.Command.TheVariants as command
@@ -14,8 +15,6 @@ use Rattle.cue_operator.specs.Methods.{address_of, cue_command}
 use Rattle.cue_operator.specs.declared.method.DeviceVerb.TheVariants as on_device
 use Rattle.cue_operator.specs.declared.method.Method.{Method}
 use Rattle.cue_operator.specs.declared.method.Method.TheVariants as method
-use Rattle.cue_desk.specs.declared.asking.AskFault.{AskFault}
-use Rattle.cue_desk.specs.declared.asking.AskFault.TheVariants as fault
 use Rattle.cue_desk.specs.declared.asking.Asked.{Asked}
 use Rattle.cue_desk.specs.declared.asking.Asked.TheVariants as asked
 
@@ -64,7 +63,6 @@ pub record AsksFor (bytes : List ℕ) (wanted : Command) : Type 0 where
   pub message : datagram_at bytes ≡ Ok (message (address_of method) arguments)
   pub command : command_by arguments method ≡ wanted
 
--- why there is no datagram if its message is not written
-abbrev pub ask_fault : WriteFault → AskFault
-ask_fault write.Memory = fault.Memory
-ask_fault write.TooLong = fault.Unwritable
+-- OSC has no datagram for it: it cannot be spelled, or its spelling is longer than a datagram
+abbrev pub IsUnwritable : Content → Type 0
+IsUnwritable c = IsPlain 8 c → MAX_LEN < length (text_of c)

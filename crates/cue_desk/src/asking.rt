@@ -1,13 +1,14 @@
 //! What the desk asks of the controller: each as exactly one message of the protocol, by itself or with others.
-ghost use Rattle.std.specs.Prelude.{◌≡◌, ◌++◌, ◌∷◌, [], IsTrue, Ok, IfOk, OnOk, map};
+ghost use Rattle.std.specs.Prelude.{◌≡◌, ◌++◌, ◌∷◌, [], IsErrOf, IsTrue, Ok, IfOk, OnOk, map};
 ghost use Rattle.cue_osc.specs.Argument.{arg_view, text};
-ghost use Rattle.cue_osc.specs.Content.{message};
+ghost use Rattle.cue_osc.specs.Content.{message, view};
 ghost use Rattle.cue_osc.specs.Reading.{datagram_at};
 ghost use Rattle.cue_operator.specs.Methods.{address_of, under};
 ghost use Rattle.cue_operator.specs.declared.method.Method.TheVariants.{OfCue, OfDevice};
-ghost use Rattle.cue_desk.specs.Asks.{AsksFor, arguments_of, ask_fault, command_of, flag_of, flagged_parts};
+ghost use Rattle.cue_desk.specs.Asks.{AsksFor, IsUnwritable, arguments_of, command_of, flag_of, flagged_parts};
 ghost use Rattle.cue_desk.specs.Asks.{is_askable, method_of};
 ghost use Rattle.cue_desk.specs.Loading.{message_of};
+ghost use Rattle.cue_desk.specs.declared.asking.AskFault.TheVariants.{Unwritable};
 
 mod bundling;
 
@@ -64,17 +65,6 @@ pub enum AskFault {
     Memory,
     /// The message would be longer than a datagram. What a show can have never is.
     Unwritable,
-}
-
-impl From<WriteFault> for AskFault {
-    ghost from_gives = { λ written fault. fault ≡ ask_fault written };
-
-    fn from(written: WriteFault) -> AskFault {
-        match written {
-            WriteFault::Memory => AskFault::Memory,
-            WriteFault::TooLong => AskFault::Unwritable,
-        }
-    }
 }
 
 impl From<AllocError> for AskFault {
@@ -185,23 +175,37 @@ fn args_of<'a>(alloc: Global, asked: &'a Asked<'a>) -> Result<Vec<Arg<'a>>, Allo
     }
 }
 
+/// The datagram of a packet. `Unwritable` if OSC has none for it.
+pub fn datagram_of(alloc: Global, packet: &Packet<'_>) -> Result<Vec<u8>, AskFault>
+    ensures said { IfOk result (λ bytes. datagram_at bytes.items ≡ Ok (view packet.now)) }
+    ensures unwritable { IsErrOf result Unwritable → IsUnwritable (view packet.now) }
+{
+    if !packet.plain() {
+        return Err(AskFault::Unwritable);
+    }
+    match cue_osc::write(alloc, packet) {
+        Ok(bytes) => Ok(bytes),
+        Err(WriteFault::TooLong) => Err(AskFault::Unwritable),
+        Err(WriteFault::Memory) => Err(AskFault::Memory),
+    }
+}
+
 /// The datagram of a message.
 pub(crate) fn message(
     alloc: Global,
     address: &[u8],
     args: Vec<Arg<'_>>,
 ) -> Result<Vec<u8>, AskFault>
-    ensures { let said = message address.now (map arg_view args.entry.items) in
+    ensures message { let said = message address.now (map arg_view args.entry.items) in
         IfOk result (λ bytes. datagram_at bytes.items ≡ Ok said) }
+    ensures unwritable { let said = message address.now (map arg_view args.entry.items) in
+        IsErrOf result Unwritable → IsUnwritable said }
 {
     let packet = Packet::Message(Message {
         address,
         args: Args::from_vec(args),
     });
-    if !packet.plain() {
-        return Err(AskFault::Unwritable);
-    }
-    Ok(cue_osc::write(alloc, &packet)?)
+    datagram_of(alloc, &packet)
 }
 
 /// The datagram that asks for it, and for nothing else: one message.
@@ -209,6 +213,7 @@ pub fn datagram(alloc: Global, asked: &Asked<'_>) -> Result<Vec<u8>, AskFault>
     requires { IsTrue (is_askable asked.now) }
     ensures asks { IfOk result (λ bytes. AsksFor bytes.items (command_of asked.now)) }
     ensures message { IfOk result (λ bytes. datagram_at bytes.items ≡ Ok (message_of asked.now)) }
+    ensures unwritable { IsErrOf result Unwritable → IsUnwritable (message_of asked.now) }
 {
     let address = address(alloc, asked)?;
     let args = args_of(alloc, asked)?;

@@ -25,8 +25,8 @@
 //!   time in steps, some of two seconds, and within one step a file may change twice. The time is that of the last
 //!   change (`ctime`), which no copy puts back.
 //!
-//! Only tested: `read_reply` but for its numbers, how many cues fit into a bundle. `datagram` answers `Unwritable` for
-//! what no datagram can carry; no show has such a cue.
+//! Only tested: `read_reply` but for its numbers, how many cues fit into a bundle. `Unwritable` comes only for what OSC has
+//! no datagram for; that no show has such a cue is in no clause.
 #![tactic(auto)]
 
 pub mod answered;

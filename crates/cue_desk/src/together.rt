@@ -1,6 +1,8 @@
 //! Cues that are stood by together: one message for all of them, and its one reply.
-ghost use Rattle.std.specs.Prelude.{◌≡◌, ◌++◌, IfOk, Ok, OnOk, codes};
+ghost use Rattle.std.specs.Prelude.{◌≡◌, ◌++◌, IfOk, IsErrOf, Ok, OnOk, codes};
 ghost use Rattle.cue_osc.specs.Reading.{datagram_at};
+ghost use Rattle.cue_desk.specs.Asks.{IsUnwritable};
+ghost use Rattle.cue_desk.specs.declared.asking.AskFault.TheVariants.{Unwritable};
 ghost use Rattle.cue_desk.specs.Together as together;
 
 use crate::asking::{AskFault, cue_address, device_address, message, under};
@@ -99,14 +101,15 @@ pub fn address_with(
     }
 }
 
-/// The datagram of the one message that asks for it.
+/// The datagram of the one message that asks for it. `Unwritable` if OSC has none for it.
 pub fn datagram_with(
     alloc: Global,
     order: DeskCommand,
     others: &[CueNo],
 ) -> Result<Vec<u8>, AskFault>
-    ensures { let said = together.message_with order others.now in
+    ensures message { let said = together.message_with order others.now in
         IfOk result (λ bytes. datagram_at bytes.items ≡ Ok said) }
+    ensures unwritable { IsErrOf result Unwritable → IsUnwritable (together.message_with order others.now) }
 {
     let address = address_with(alloc, order, others)?;
     message(alloc, &address, Vec::new(alloc))

@@ -4,7 +4,8 @@
 //! what comes after it, stands in `specs/Steps.antt`; `laws` says what each life comes to.
 //!
 //! Why it is so:
-//! - A message that asks one thing is sent again by another socket: so a late reply is not taken for that to another one.
+//! - A message that asks one thing is sent again by another socket: so a late reply is hardly taken for that to another
+//!   one. There are 32 sockets; after the last the first is used again.
 //! - The time for the replies to a bundle begins anew with each that comes: a load that goes on does not end for it.
 //! - That nobody listens is heard, and ends the load at once. Whoever starts the controller then loads again.
 //! - What is told is counted only from replies: `answers_in` gives nothing unless each has its own.

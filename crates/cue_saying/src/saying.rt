@@ -1,4 +1,8 @@
 //! What the program says on standard error, and how it prints.
+ghost use Rattle.std.specs.Prelude.{◌≡◌, IfErr, OnOk};
+ghost use Rattle.std.specs.Io.KnownBytes.{Appends};
+ghost use Rattle.cue_desk.specs.declared.ending.Ending.TheVariants.{Failed, Unwritten};
+
 use cue_desk::ending::Ending;
 use std::fmt::Display;
 use std::io::{self, Eprint, Write};
@@ -9,7 +13,9 @@ pub fn say<R: Eprint, D: Display + Drop>(rt: &R, what: D) {
 }
 
 /// Says why a clock, a socket or memory failed.
-pub fn failed<R: Eprint>(rt: &R, why: &io::Error) -> Ending {
+pub fn failed<R: Eprint>(rt: &R, why: &io::Error) -> Ending
+    ensures { result ≡ Failed }
+{
     say(rt, format_args!("the desk cannot go on: {why}"));
     Ending::Failed
 }
@@ -22,7 +28,10 @@ pub fn say_fault<R: Eprint>(rt: &R, fault: Option<io::Error>) {
 }
 
 /// Prints, and sees that all of it left.
-pub fn print<W: Write>(writer: &mut W, text: &str) -> Result<(), Ending> {
+pub fn print<W: Write>(writer: &mut W, text: &str) -> Result<(), Ending>
+    ensures printed { OnOk result (Appends (W.contents writer.old) (W.contents writer.new) text.now) }
+    ensures unwritten { IfErr result (λ ending. ending ≡ Unwritten) }
+{
     match writer.write_all(text.as_bytes()) {
         Ok(()) => match writer.flush() {
             Ok(()) => Ok(()),

@@ -1,15 +1,17 @@
 //! What a show file adds, asked by few datagrams: each is carried out whole or not at all, and each of its messages is
 //! replied to by itself.
-ghost use Rattle.std.specs.Prelude.{◌≡◌, ◌++◌, ◌∷◌, ◌≤◌, ◌<◌, [], IfOk, OnOk, Ok, length, map, pos};
+ghost use Rattle.std.specs.Prelude.{◌≡◌, ◌++◌, ◌∷◌, ◌≤◌, ◌<◌, [], IfOk, IsErrOf, OnOk, Ok, length, map, pos};
 ghost use Rattle.cue_osc.specs.Argument.{arg_view, int};
 ghost use Rattle.cue_osc.specs.Content.{bundle, contents_of, view};
 ghost use Rattle.cue_osc.specs.Reading.{datagram_at};
 ghost use Rattle.cue_operator.specs.Methods.{address_of};
 ghost use Rattle.cue_operator.specs.declared.method.Method.TheVariants.{AddDevice, AddMixedCue};
+ghost use Rattle.cue_desk.specs.Asks.{IsUnwritable};
 ghost use Rattle.cue_desk.specs.Loading.{cue_message, device_message};
+ghost use Rattle.cue_desk.specs.declared.asking.AskFault.TheVariants.{Unwritable};
 ghost use Rattle.cue_desk.specs.declared.asking.bundling.TheConstants.{MAX_TOGETHER};
 
-use super::{AskFault, cue_args};
+use super::{AskFault, cue_args, datagram_of};
 use cue_osc::{Arg, Args, MAX_LEN, Message, Packet};
 use cue_show::Part;
 use cue_show_file::{CueEntry, DeviceEntry};
@@ -146,25 +148,26 @@ fn push_cues<'a>(
 
 // The datagram of a bundle of these.
 fn bundle_of(alloc: Global, items: Vec<Packet<'_>>) -> Result<Vec<u8>, AskFault>
-    ensures { let said = contents_of (map view items.entry.items) in
+    ensures message { let said = contents_of (map view items.entry.items) in
         IfOk result (λ bytes. datagram_at bytes.items ≡ Ok (bundle 1 said)) }
+    ensures unwritable { let said = contents_of (map view items.entry.items) in
+        IsErrOf result Unwritable → IsUnwritable (bundle 1 said) }
 {
     let packet = Packet::Bundle {
         tag: IMMEDIATELY,
         items,
     };
-    if !packet.plain() {
-        return Err(AskFault::Unwritable);
-    }
-    Ok(cue_osc::write(alloc, &packet)?)
+    datagram_of(alloc, &packet)
 }
 
 /// The datagram that asks for these devices to be added, in order, and for nothing else: a bundle of the message of
 /// each, to be carried out at once. `Unwritable` if it would be longer than a datagram: `devices_that_fit` says how
 /// many are not.
 pub fn bundle_of_devices(alloc: Global, entries: &[DeviceEntry]) -> Result<Vec<u8>, AskFault>
-    ensures { let said = contents_of (map device_message entries.now) in
+    ensures message { let said = contents_of (map device_message entries.now) in
         IfOk result (λ bytes. datagram_at bytes.items ≡ Ok (bundle 1 said)) }
+    ensures unwritable { let said = contents_of (map device_message entries.now) in
+        IsErrOf result Unwritable → IsUnwritable (bundle 1 said) }
 {
     let mut messages = Vec::new(alloc);
     push_devices(alloc, &mut messages, entries)?;
@@ -173,8 +176,10 @@ pub fn bundle_of_devices(alloc: Global, entries: &[DeviceEntry]) -> Result<Vec<u
 
 /// The datagram that asks for these cues to be added, as `bundle_of_devices` has it for devices.
 pub fn bundle_of_cues(alloc: Global, entries: &[CueEntry]) -> Result<Vec<u8>, AskFault>
-    ensures { let said = contents_of (map cue_message entries.now) in
+    ensures message { let said = contents_of (map cue_message entries.now) in
         IfOk result (λ bytes. datagram_at bytes.items ≡ Ok (bundle 1 said)) }
+    ensures unwritable { let said = contents_of (map cue_message entries.now) in
+        IsErrOf result Unwritable → IsUnwritable (bundle 1 said) }
 {
     let mut messages = Vec::new(alloc);
     push_cues(alloc, &mut messages, entries)?;

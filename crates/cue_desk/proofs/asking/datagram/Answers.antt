@@ -15,7 +15,7 @@ returns-clause-asks c =
     (λ bytes read. asks-for c.args.asked.now c.requires bytes.items c.deref.result.now
     (map arg_view c.in_ok-args.args.items) (c.deref.ensures.value ∙ c.in_ok-address.ensures) c.in_ok-args.ensures
     read)
-    c.message.ensures
+    c.message.ensures.message
 
 pub returns-clause-message : goal.returns-clause-message
 returns-clause-message c =
@@ -24,4 +24,4 @@ returns-clause-message c =
     (λ bytes. datagram_at bytes.items ≡ Ok (message_of c.args.asked.now))
     (λ bytes read. says c.args.asked.now bytes.items c.deref.result.now (map arg_view c.in_ok-args.args.items)
     (c.deref.ensures.value ∙ c.in_ok-address.ensures) c.in_ok-args.ensures read)
-    c.message.ensures
+    c.message.ensures.message

@@ -119,6 +119,6 @@ has_round page page_then g g_then now here left here_then old new served stay =
 -- so nothing else was heard
 pub round_asked : (page page_then : PageIdentity) (g g_then : Guard) (now : ℕ) (here left : List Connection)
     (old new : Station) → ServesEach page page_then g g_then now here left old new
-    → OnlyAsked page page_then old new
+    → OnlyAsked page page_then g g_then old new
 round_asked page page_then g g_then now here left old new served =
-    record { servings = served.servings; heard = served.heard; identity = served.identity }
+    record { servings = served.servings; lock = served.lock; heard = served.heard; identity = served.identity }

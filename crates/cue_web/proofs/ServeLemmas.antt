@@ -97,26 +97,29 @@ at_then now (s ∷ first) more a b = (a.0, at_then now first more a.1 b)
 -- ---- whatever the page served
 
 -- no press is heard
-pub asked_looks : (identity identity_then : PageIdentity) (old new : Station) → OnlyLooks old new
-    → identity_then ≡ identity → OnlyAsked identity identity_then old new
-asked_looks identity identity_then old new looks same = record { servings = []; heard = looks; identity = same }
+pub asked_looks : (identity identity_then : PageIdentity) (g g_then : Guard) (old new : Station) → OnlyLooks old new
+    → identity_then ≡ identity → g_then ≡ g → OnlyAsked identity identity_then g g_then old new
+asked_looks identity identity_then g g_then old new looks same locked =
+    record { servings = []; lock = locked; heard = looks; identity = same }
 
 -- nothing is heard
-pub asked_none : (identity : PageIdentity) (s : Station) → OnlyAsked identity identity s s
-asked_none identity s = asked_looks identity identity s s (looks_none s) refl
+pub asked_none : (identity : PageIdentity) (g : Guard) (s : Station) → OnlyAsked identity identity g g s s
+asked_none identity g s = asked_looks identity identity g g s s (looks_none s) refl refl
 
-pub asked_same : (identity identity_then : PageIdentity) (old new : Station) → new ≡ old → identity_then ≡ identity
-    → OnlyAsked identity identity_then old new
-asked_same identity identity_then old new e same =
-    asked_looks identity identity_then old new (subst (λ (s : Station). OnlyLooks old s) (sym e) (looks_none old)) same
+pub asked_same : (identity identity_then : PageIdentity) (g g_then : Guard) (old new : Station) → new ≡ old
+    → identity_then ≡ identity → g_then ≡ g → OnlyAsked identity identity_then g g_then old new
+asked_same identity identity_then g g_then old new e same locked =
+    asked_looks identity identity_then g g_then old new
+    (subst (λ (s : Station). OnlyLooks old s) (sym e) (looks_none old)) same locked
 
 -- one after the other
-pub asked_then : (identity mid_identity identity_then : PageIdentity) (old mid new : Station)
-    → OnlyAsked identity mid_identity old mid → OnlyAsked mid_identity identity_then mid new
-    → OnlyAsked identity identity_then old new
-asked_then identity mid_identity identity_then old mid new a b =
+pub asked_then : (identity mid_identity identity_then : PageIdentity) (g mid_g g_then : Guard) (old mid new : Station)
+    → OnlyAsked identity mid_identity g mid_g old mid → OnlyAsked mid_identity identity_then mid_g g_then mid new
+    → OnlyAsked identity identity_then g g_then old new
+asked_then identity mid_identity identity_then g mid_g g_then old mid new a b =
     record {
       servings = a.servings ++ b.servings;
+      lock = hands_then a.servings b.servings g mid_g g_then a.lock b.lock;
       heard = served_then identity a.servings b.servings old mid new a.heard
           (subst (λ (i : PageIdentity). OnlyServed i b.servings mid new) a.identity b.heard);
       identity = b.identity ∙ a.identity;

@@ -134,10 +134,11 @@ abbrev pub AreAt : ℕ → List Serving → Type 0
 AreAt now [] = Unit {0}
 AreAt now (s ∷ more) = (s.at ≡ now) × AreAt now more
 
--- Whatever the page served: the desk heard nothing but looks and connections that were served, and the page is where it
--- was.
-pub record OnlyAsked (page page_then : PageIdentity) (old new : Station) : Type 0 where
+-- Whatever the page served: the desk heard nothing but looks and connections that were served, the lock was handed on
+-- from each to the next, and the page is where it was.
+pub record OnlyAsked (page page_then : PageIdentity) (g g_then : Guard) (old new : Station) : Type 0 where
   pub servings : List Serving
+  pub lock : HandsOn servings g g_then
   pub heard : OnlyServed page servings old new
   pub identity : page_then ≡ page
 

@@ -179,7 +179,8 @@ impl Connections {
     )
         ensures round { HasRound pages.old.identity pages.new.identity pages.old.guard pages.new.guard now
             self.old.here.items self.new.here.items desk.old.station desk.new.station }
-        ensures asked { OnlyAsked pages.old.identity pages.new.identity desk.old.station desk.new.station }
+        ensures asked { OnlyAsked pages.old.identity pages.new.identity pages.old.guard pages.new.guard
+            desk.old.station desk.new.station }
         ensures room { vec_capacity self.new.here ≡ vec_capacity self.old.here }
     {
         serve_each(alloc, &mut self.here, desk, pages, now);

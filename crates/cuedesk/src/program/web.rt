@@ -55,6 +55,7 @@ impl<R: Files<File = File> + Net + Clock + Eprint + AllocGlobal> Server<'_, R> {
     fn renew(&mut self) -> io::Result<()>
         ensures desk { self.new.desk ≡ self.old.desk }
         ensures identity { self.new.pages.identity ≡ self.old.pages.identity }
+        ensures guard { self.new.pages.guard ≡ self.old.pages.guard }
     {
         let Some(renewed) = &mut self.renewed else {
             return Ok(());
@@ -69,6 +70,7 @@ impl<R: Files<File = File> + Net + Clock + Eprint + AllocGlobal> Server<'_, R> {
     fn tell(&mut self) -> io::Result<()>
         ensures desk { self.new.desk ≡ self.old.desk }
         ensures identity { self.new.pages.identity ≡ self.old.pages.identity }
+        ensures guard { self.new.pages.guard ≡ self.old.pages.guard }
     {
         let Some(renewed) = &self.renewed else {
             return Ok(());
@@ -84,8 +86,8 @@ impl<R: Files<File = File> + Net + Clock + Eprint + AllocGlobal> Server<'_, R> {
     // of now.
     #[tactic(auto, using(cue_web::proofs::ServeLemmas::asked_looks, cue_web::proofs::ServeLemmas::asked_none))]
     fn wake(&mut self) -> io::Result<()>
-        ensures { OnlyAsked self.old.pages.identity self.new.pages.identity self.old.desk.station
-            self.new.desk.station }
+        ensures { OnlyAsked self.old.pages.identity self.new.pages.identity self.old.pages.guard self.new.pages.guard
+            self.old.desk.station self.new.desk.station }
     {
         let now = self.desk.now()?;
         let is_late = now.saturating_sub(self.last) > HELD_UP;
@@ -99,8 +101,8 @@ impl<R: Files<File = File> + Net + Clock + Eprint + AllocGlobal> Server<'_, R> {
     // Hears who presses. Answers whether more of them wait.
     #[tactic(auto, using(cue_web::proofs::ServeLemmas::asked_none))]
     fn hear(&mut self, connections: &mut Connections) -> io::Result<bool>
-        ensures { OnlyAsked self.old.pages.identity self.new.pages.identity self.old.desk.station
-            self.new.desk.station }
+        ensures { OnlyAsked self.old.pages.identity self.new.pages.identity self.old.pages.guard self.new.pages.guard
+            self.old.desk.station self.new.desk.station }
     {
         let alloc = self.rt.alloc();
         let now = self.desk.now()?;
@@ -112,8 +114,8 @@ impl<R: Files<File = File> + Net + Clock + Eprint + AllocGlobal> Server<'_, R> {
     // Looks at the world, and at the show file.
     #[tactic(auto, using(cue_web::proofs::ServeLemmas::asked_looks))]
     fn look(&mut self) -> io::Result<()>
-        ensures { OnlyAsked self.old.pages.identity self.new.pages.identity self.old.desk.station
-            self.new.desk.station }
+        ensures { OnlyAsked self.old.pages.identity self.new.pages.identity self.old.pages.guard self.new.pages.guard
+            self.old.desk.station self.new.desk.station }
     {
         self.desk.round()?;
         self.renew()
@@ -121,8 +123,8 @@ impl<R: Files<File = File> + Net + Clock + Eprint + AllocGlobal> Server<'_, R> {
 
     // One round: who presses is heard first. Answers whether more of them wait.
     fn round(&mut self, connections: &mut Connections) -> io::Result<bool>
-        ensures { OnlyAsked self.old.pages.identity self.new.pages.identity self.old.desk.station
-            self.new.desk.station }
+        ensures { OnlyAsked self.old.pages.identity self.new.pages.identity self.old.pages.guard self.new.pages.guard
+            self.old.desk.station self.new.desk.station }
     {
         self.wake()?;
         let is_waited_for = self.hear(connections)?;
@@ -133,8 +135,8 @@ impl<R: Files<File = File> + Net + Clock + Eprint + AllocGlobal> Server<'_, R> {
     // One round, and what went wrong in it; then it waits until something comes.
     #[tactic(auto, using(cue_web::proofs::ServeLemmas::asked_then, cue_web::proofs::ServeLemmas::asked_same))]
     fn go_on(&mut self, connections: &mut Connections) -> io::Result<()>
-        ensures { OnlyAsked self.old.pages.identity self.new.pages.identity self.old.desk.station
-            self.new.desk.station }
+        ensures { OnlyAsked self.old.pages.identity self.new.pages.identity self.old.pages.guard self.new.pages.guard
+            self.old.desk.station self.new.desk.station }
     {
         let is_waited_for = self.round(connections)?;
         say_fault(self.rt, self.desk.take_fault());
@@ -142,11 +144,12 @@ impl<R: Files<File = File> + Net + Clock + Eprint + AllocGlobal> Server<'_, R> {
         self.desk.wait(if is_waited_for { 0 } else { PAUSE })
     }
 
-    // Serves until a signal ends it. Each press that the desk hears was asked by a request of our own page.
+    // Serves until a signal ends it. Each press that the desk hears was asked by a request of our own page, and judged by
+    // the lock that the request before left.
     #[tactic(auto, using(cue_web::proofs::ServeLemmas::asked_then, cue_web::proofs::ServeLemmas::asked_none))]
     fn serve(&mut self, connections: &mut Connections) -> Result<(), Ending>
-        ensures { OnlyAsked self.old.pages.identity self.new.pages.identity self.old.desk.station
-            self.new.desk.station }
+        ensures { OnlyAsked self.old.pages.identity self.new.pages.identity self.old.pages.guard self.new.pages.guard
+            self.old.desk.station self.new.desk.station }
     {
         for _ in 0..u64::MAX {
             if let Err(why) = self.go_on(connections) {

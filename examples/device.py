@@ -10,6 +10,7 @@ In the file KEPT it keeps the highest number that it has heard of, and where tha
     --motion SECONDS     how long it moves, 0 by default
     --fault SECONDS      so long after it is ready it finds that it cannot go on
     --only ADDRESS:PORT  the one sender that it hears: give it in a show
+    --relay              that sender is a relay: it is told who made the device, where it is, and why it aborts
 """
 import argparse
 import os
@@ -21,6 +22,8 @@ import zlib
 
 REPEAT = 0.25  # seconds between two copies of an abort that nobody asked for
 COPIES, SOON = 40, 0.025  # of it in its first second: so many, and the seconds between two
+MADE = "Example device 1"
+MINUTE, OFTEN = 60.0, 0.1  # seconds between two claims: who made it; where it is, while it moves
 ORDERS = {"/msc/standby": ",iisb", "/msc/go_2pc": ",ii", "/msc/cancel": ",ii"}
 
 
@@ -31,6 +34,12 @@ def text(value):
 
 def message(address, number):
     return text(address) + text(",i") + struct.pack(">i", number)
+
+
+def claim(device, word, tags, *values):
+    """What a device tells the relay of itself."""
+    data = b"".join(text(value) if isinstance(value, str) else struct.pack(">i", value) for value in values)
+    return text(f"/device/{device}/{word}") + text(tags) + data
 
 
 def take_text(data, at):
@@ -120,6 +129,7 @@ class Device:
         self.copies = COPIES if self.attempt else 0
         self.is_heard = False  # whether the controller has replied to its abort
         self.printed = None
+        self.reason = "restarted"  # why it aborts
         self.sender = None  # of the last datagram
         self.controller = kept.sender if kept else None  # where the last order came from
 
@@ -195,6 +205,7 @@ class Device:
         if self.due is None or now < self.due:
             return None
         due, was = self.due, self.step
+        self.reason = "the drive is too hot" if was == "standing_by" else self.reason
         self.enter(self.NEXT[was], now)
         if self.step == "abort":
             self.copies, self.is_heard = (self.copies, self.is_heard) if was == "abort" else (COPIES, False)
@@ -218,6 +229,37 @@ class Device:
         return message(f"/device/{self.number}/{answer}", attempt)
 
 
+class Claims:
+    """What the device tells the relay of itself. Nothing is decided by it, here or there."""
+
+    def __init__(self, device, is_told):
+        self.device, self.who, self.at = device, 0.0 if is_told else None, None
+
+    def due(self):
+        """When something is told next that only the clock asks for; None: never."""
+        known = self.who if self.device.controller else None
+        return min((due for due in (known, self.at) if due is not None), default=None)
+
+    def told(self, unasked, now):
+        """What is told now: why it aborts, beside an abort that nobody asked for; where it is; who made it."""
+        if self.who is None or not self.device.controller:
+            return
+        if unasked and self.device.step == "abort":
+            yield claim(self.device.number, "why", ",is", self.device.attempt, self.device.reason)
+        is_moving = self.device.step == "moving"
+        if now >= (self.at or 0.0) if is_moving else self.at is not None:
+            yield claim(self.device.number, "at", ",iis", self.percent(now) if is_moving else 100, 100, "%")
+            self.at = now + OFTEN if is_moving else None
+        if now >= self.who:
+            self.who = now + MINUTE
+            yield claim(self.device.number, "who", ",s", MADE)
+
+    def percent(self, now):
+        """How much of its motion is done."""
+        whole = self.device.seconds["moving"]
+        return 100 - round(100 * max(0.0, self.device.due - now) / whole) if whole else 100
+
+
 def receive(wire, due):
     """The next datagram and its sender; None where none comes before the device has something to do."""
     wire.settimeout(None if due is None else max(0.001, due - time.monotonic()))
@@ -235,14 +277,23 @@ def hear(device, data, sender):
         return None  # this is no message of the controller
 
 
-def run(wire, device):
+def run(wire, device, has_relay=False):
     """One loop over the socket, and nothing in it that waits but the socket."""
+    claims = Claims(device, has_relay)
     while True:
-        data, sender = receive(wire, device.due)
+        dues = [due for due in (device.due, claims.due()) if due is not None]
+        data, sender = receive(wire, min(dues, default=None))
         answers = [] if data is None else [hear(device, data, sender)]
-        answers.append(device.tick(time.monotonic()))
+        now = time.monotonic()
+        answers += [unasked := device.tick(now), *claims.told(unasked, now)]
         for answer in filter(None, answers):
             wire.sendto(answer, device.controller)
+
+
+def place(text):
+    """The address and the port of --only."""
+    address, _, port = text.rpartition(":")
+    return address, int(port)
 
 
 def main():
@@ -254,16 +305,15 @@ def main():
     for name, what in (("prepare", "it prepares"), ("motion", "it moves")):
         parser.add_argument(f"--{name}", type=float, default=0.0, metavar="SECONDS", help=f"how long {what}")
     parser.add_argument("--fault", type=float, metavar="SECONDS", help="so long after it is ready it cannot go on")
-    parser.add_argument("--only", metavar="ADDRESS:PORT", help="the one sender that it hears")
+    parser.add_argument("--only", type=place, metavar="ADDRESS:PORT", help="the one sender that it hears")
+    parser.add_argument("--relay", action="store_true", help="that sender is a relay, which is told of the device")
     words = parser.parse_args()
     kept = Kept(words.kept)
     device = Device(words.number, not words.unable, words.prepare, words.motion, words.fault, kept)
-    if words.only:
-        address, _, port = words.only.rpartition(":")
-        device.only = address, int(port)
+    device.only = words.only
     with socket.socket(socket.AF_INET, socket.SOCK_DGRAM) as wire:
         wire.bind(("127.0.0.1", words.port))
-        run(wire, device)
+        run(wire, device, words.relay)
 
 
 if __name__ == "__main__":

@@ -1,11 +1,12 @@
 /* A winch for cuectl: a whole device on one socket and in one loop. Its motor is a clock, and prints a line for each
  * motion. docs/DEVICES.md shows how to build it.
  *
- *     winch NUMBER PORT KEPT [PREPARE MOVE [LET_GO [ADDRESS PORT]]]
+ *     winch NUMBER PORT KEPT [PREPARE MOVE [LET_GO [ADDRESS PORT [relay]]]]
  *
  * NUMBER is 0 to 111, PORT is its port on 127.0.0.1. In the file KEPT it keeps the highest number that it has heard of,
  * and where that came from: remove it for a new show. PREPARE, MOVE and LET_GO say how many milliseconds its motor
- * takes. ADDRESS and PORT are of the one sender that it hears (14a): give them in a show.
+ * takes. ADDRESS and PORT are of the one sender that it hears (14a): give them in a show. With `relay` that sender is a
+ * relay, which is told who made the winch, where it is, and why it aborts.
  *
  * On SIGUSR1 the motor finds that it cannot go on. */
 #include "cue_device.h"
@@ -23,6 +24,7 @@
 #include <unistd.h>
 
 enum { TICK = 250 };             /* milliseconds between two calls of cue_tick */
+enum { OFTEN = 100, MINUTE = 60000 }; /* milliseconds between two claims: where it is; who made it */
 enum { SOON = 25, COPIES = 40 }; /* milliseconds between two copies of an abort in its first second; how many (15b) */
 
 static volatile sig_atomic_t fault; /* the motor's own signal */
@@ -46,6 +48,13 @@ static struct {
     int left;                 /* how many copies of it are still to send in its first second */
     int64_t due;              /* when something is said that nobody asked for */
 } unasked;
+
+static struct {
+    int is_on;           /* a relay is there to be told */
+    int is_moving;       /* it was told that the winch moves, and not yet that it is at rest */
+    int64_t at, who;     /* when it is told next where the winch is, and who made it */
+    const char *reason;  /* why the winch aborts */
+} claims;
 
 /* Ends the winch, with its motor at rest. */
 static void end(const char *what)
@@ -145,12 +154,13 @@ static void carry_out(uint32_t order, const struct cue_device *device)
 }
 
 /* An abort that nobody asked for is said forty times in its first second, whatever comes but a higher number. */
-static void say_often(const struct cue_answer *answer, uint32_t number, int left)
+static void say_often(struct cue_answer *answer, uint32_t number)
 {
     unasked.answer = *answer;
     unasked.number = number;
-    unasked.left = answer->length > 0 ? left : 0;
-    unasked.due = now() + (left < COPIES ? SOON : 0);
+    unasked.left = answer->length > 0 ? COPIES : 0;
+    unasked.due = now();
+    answer->length = 0; /* say_unasked says it from now on */
 }
 
 /* Reports what the motor has done. No answer while it is still at work. */
@@ -162,7 +172,8 @@ static void look_at_motor(struct cue_device *device, struct cue_answer *answer)
         motor.order = CUE_NO_ORDER;
         if (cue_cannot(device, answer) != CUE_BAD_CALL) {
             fault = 0; /* else it stays, and the next CUE_PREPARE is answered with abort */
-            say_often(answer, device->last, COPIES - 1);
+            claims.reason = "the drive is too hot";
+            say_often(answer, device->last);
         }
     } else if (order != CUE_NO_ORDER && now() >= motor.due) {
         motor.order = CUE_NO_ORDER;
@@ -175,15 +186,65 @@ static void look_at_motor(struct cue_device *device, struct cue_answer *answer)
     }
 }
 
+static void send_to(int wire, const struct cue_place *place, const void *bytes, size_t length)
+{
+    struct sockaddr_in to = {.sin_family = AF_INET};
+    to.sin_addr.s_addr = htonl(cue_place_address(place));
+    to.sin_port = htons(cue_place_port(place));
+    sendto(wire, bytes, length, 0, (const struct sockaddr *)&to, sizeof to);
+}
+
 /* Sends the answer, if there is one, to where the last order came from. */
 static void say(int wire, const struct cue_answer *answer)
 {
-    struct sockaddr_in to = {.sin_family = AF_INET};
-    if (answer->length == 0)
-        return;
-    to.sin_addr.s_addr = htonl(cue_place_address(&answer->to));
-    to.sin_port = htons(cue_place_port(&answer->to));
-    sendto(wire, answer->bytes, answer->length, 0, (const struct sockaddr *)&to, sizeof to);
+    if (answer->length > 0)
+        send_to(wire, &answer->to, answer->bytes, answer->length);
+}
+
+/* Puts a text with its zeros; how many bytes that are. */
+static size_t put_text(char *to, const char *text)
+{
+    size_t whole = strlen(text) / 4 * 4 + 4;
+    memset(to, 0, whole);
+    memcpy(to, text, strlen(text));
+    return whole;
+}
+
+/* Tells the relay something of the winch: as many numbers as the tags have, and a text. It decides nothing. */
+static void tell(int wire, const struct cue_device *device, const char *what, const char *tags, int32_t first,
+                 int32_t second, const char *words)
+{
+    char address[24], claim[96];
+    uint32_t numbers[2] = {htonl((uint32_t)first), htonl((uint32_t)second)};
+    size_t count = strlen(tags) - 2, at;
+    if (!claims.is_on || cue_place_port(&device->controller) == 0)
+        return; /* or it has never heard an order, and knows nobody whom to tell */
+    snprintf(address, sizeof address, "/device/%u/%s", (unsigned)device->number, what);
+    at = put_text(claim, address);
+    at += put_text(claim + at, tags);
+    memcpy(claim + at, numbers, 4 * count);
+    at += 4 * count;
+    at += put_text(claim + at, words);
+    send_to(wire, &device->controller, claim, at);
+}
+
+/* Tells what the clock asks for: where the winch is, in percent of its motion, ten times a second and once at rest; and
+ * who made it. */
+static void tell_again(int wire, const struct cue_device *device)
+{
+    int64_t takes = motor.takes[CUE_MOVE], time = now();
+    int is_moving = motor.order == CUE_MOVE && motor.due > time;
+    if (is_moving && time >= claims.at) {
+        tell(wire, device, "at", ",iis", (int32_t)(100 - 100 * (motor.due - time) / takes), 100, "%");
+        claims.at = time + OFTEN;
+    } else if (!is_moving && claims.is_moving) {
+        tell(wire, device, "at", ",iis", 100, 100, "%");
+    }
+    claims.is_moving = is_moving;
+    if (time >= claims.who && cue_place_port(&device->controller) != 0) {
+        tell(wire, device, "who", ",s", 0, 0, "Example winch 1");
+        claims.who = time + MINUTE;
+    }
 }
 
 static void take(int wire, struct cue_device *device)
@@ -213,11 +274,14 @@ static void say_unasked(int wire, const struct cue_device *device)
         unasked.left--;
         unasked.answer.to = device->controller;
         say(wire, &unasked.answer);
+        tell(wire, device, "why", ",is", (int32_t)device->last, 0, claims.reason);
         unasked.due += SOON;
         return;
     }
     cue_tick(device, &answer);
     say(wire, &answer);
+    if (answer.length > 0)
+        tell(wire, device, "why", ",is", (int32_t)device->last, 0, claims.reason);
     unasked.due = now() + TICK;
 }
 
@@ -240,10 +304,13 @@ int main(int count, char **words)
     int wire = socket(AF_INET, SOCK_DGRAM, 0);
     if (count > 3)
         open_kept(words[3]);
-    if (count < 4 || cue_restarted(&device, (uint32_t)atoi(words[1]), kept.number, &kept.from, &answer) != CUE_NO_ORDER)
-        return fprintf(stderr, "winch NUMBER PORT KEPT [PREPARE MOVE [LET_GO [ADDRESS PORT]]]\n"), 2;
+    if (count < 4 || (count > 9 && strcmp(words[9], "relay") != 0) ||
+        cue_restarted(&device, (uint32_t)atoi(words[1]), kept.number, &kept.from, &answer) != CUE_NO_ORDER)
+        return fprintf(stderr, "winch NUMBER PORT KEPT [PREPARE MOVE [LET_GO [ADDRESS PORT [relay]]]]\n"), 2;
     if (count > 8)
         hear_only(&device, words[7], words[8]);
+    claims.is_on = count > 9;
+    claims.reason = "restarted";
     here.sin_port = htons((uint16_t)atoi(words[2]));
     here.sin_addr.s_addr = htonl(INADDR_LOOPBACK);
     if (wire < 0 || bind(wire, (struct sockaddr *)&here, sizeof here) != 0)
@@ -253,15 +320,17 @@ int main(int count, char **words)
     motor.takes[CUE_GIVE_UP] = count > 6 ? atoi(words[6]) : 0;
     signal(SIGUSR1, on_fault);
     setvbuf(stdout, NULL, _IOLBF, 0);
-    say_often(&answer, device.last, COPIES);
+    say_often(&answer, device.last);
     for (;;) {
         struct pollfd ears = {.fd = wire, .events = POLLIN};
         int64_t next = motor.order != CUE_NO_ORDER && motor.due < unasked.due ? motor.due : unasked.due;
+        next = claims.is_on && claims.is_moving && claims.at < next ? claims.at : next;
         int64_t left = next - now();
         if (poll(&ears, 1, left > 0 ? (int)left : 0) > 0)
             take(wire, &device);
         look_at_motor(&device, &answer);
         say(wire, &answer);
         say_unasked(wire, &device);
+        tell_again(wire, &device);
     }
 }

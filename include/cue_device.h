@@ -11,6 +11,9 @@
  * CUE_BAD_CALL, and then changes nothing and has nothing to send. A struct is no device if neither cue_new nor
  * cue_restarted of this header made it, or if one of its numbers but `last` and `doing_number` is out of its range.
  *
+ * The library makes answers alone. What a device may tell a relay beside them, as why it aborts and where it is, your
+ * program sends by itself, to `device.controller`: docs/DEVICES.md, "What you may tell the relay".
+ *
  * Hand each call the struct as the call before left it. Then it is one device all along, and moves at most once for
  * each number (crates/cue_device_c/src/laws.rt has that as proved laws). Never put a copy back, and never keep the
  * struct itself over a restart: one from before a motion would move again. Keep `device.last` and `device.controller`,

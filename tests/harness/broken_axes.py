@@ -345,9 +345,10 @@ BROKEN = {
 }
 
 
-def main():
-    kind = BROKEN[sys.argv[1]][0]
-    if BROKEN[sys.argv[1]][2] == "slow":
+def main(broken):
+    """Runs the box of this one of a table."""
+    kind = broken[sys.argv[1]][0]
+    if broken[sys.argv[1]][2] == "slow":
         kind.brake = 0.6
     if hasattr(kind, "retagged"):
         read = two_axes.read
@@ -356,4 +357,4 @@ def main():
 
 
 if __name__ == "__main__":
-    main()
+    main(BROKEN)

@@ -31,6 +31,11 @@ BROKEN = {
     "reads-one-datagram-in-a-while": ("3a", "", "        hear_all();\n        if (is_open",
                                       "        if (work == CUE_NO_ORDER)\n            hear_all();\n"
                                       "        else\n            usleep(1000 * STEP);\n        if (is_open"),
+    "trap-that-obeys-bundles": ("10d", "", HEARD,
+                                "        if (length > 20 && memcmp(datagram, \"#bundle\", 8) == 0)\n"
+                                "            order = cue_hear(&device, &place, datagram + 20, (size_t)length - 20u, "
+                                "&answer);\n        else\n    " + HEARD),
+    "trap-that-hears-strangers": ("14a", "", "    (void)cue_hear_only(&device, &only);\n", ""),
     "aborts-at-its-fault-alone": ("9a", "fault", "time + TICK_TIME", "time + 1000 * TICK_TIME"),
 }
 

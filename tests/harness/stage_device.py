@@ -1,9 +1,9 @@
 """The device of examples/device.py at an address of its own, over a network that loses datagrams.
 
-    stage_device.py NUMBER HOST PORT LOSS SEED [MOTION]
+    stage_device.py NUMBER HOST PORT LOSS SEED [MOTION [relay]]
 
 It loses LOSS of those that come and of those that it sends, drawn by the seed, and prints a line for each step. It
-moves for MOTION seconds, 0.3 by default.
+moves for MOTION seconds, 0.3 by default. With `relay` it tells its sender what it may of itself.
 """
 import importlib.util
 import random
@@ -42,12 +42,12 @@ class Lossy:
             self.wire.sendto(data, address)
 
 
-def main(number, host, port, loss, seed, motion=0.3):
+def main(number, host, port, loss, seed, motion=0.3, relay=""):
     module = example()
     with socket.socket(socket.AF_INET, socket.SOCK_DGRAM) as wire:
         wire.bind((host, int(port)))
         device = module.Device(int(number), prepare=0.1, motion=float(motion))
-        module.run(Lossy(wire, float(loss), int(seed)), device)
+        module.run(Lossy(wire, float(loss), int(seed)), device, relay == "relay")
 
 
 main(*sys.argv[1:])

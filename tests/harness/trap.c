@@ -1,11 +1,12 @@
 /* A trap for the tests: a device with positions, over the calls of cue_device.h, made from docs/DEVICES.md alone.
  *
- *     trap NUMBER PORT KEPT [ADDRESS PORT]
+ *     trap NUMBER PORT KEPT [ADDRESS PORT [relay]]
  *
  * Its part in a cue is one byte, the height in percent: 0 is closed, 100 is open. It travels 100 percent in a second,
  * so a cue for the height where it stands is over at once. A part that is no height, it cannot carry out. Before it
  * travels a bolt is drawn, and the bolt goes back when it is at rest or gives up. SIGUSR1 is its emergency stop, and
- * SIGUSR2 resets that. SIGHUP has it forget its number. For each motion it prints a line with `moves`. */
+ * SIGUSR2 resets that. SIGHUP has it forget its number. For each motion it prints a line with `moves`. With `relay` it
+ * tells that sender what it may of itself. */
 #include "cue_device.h"
 #include <arpa/inet.h>
 #include <fcntl.h>
@@ -21,6 +22,7 @@
 enum { BOLT = 120, TRAVEL = 10, OPEN = 100 }; /* milliseconds of the bolt, and of one percent; the highest percent */
 
 static volatile sig_atomic_t is_stopped, is_reset, is_to_forget;
+static int has_relay;
 
 static struct {
     uint32_t order;    /* what it carries out, or CUE_NO_ORDER */
@@ -103,6 +105,48 @@ static void send_answer(int wire, const struct cue_answer *answer)
     sendto(wire, answer->bytes, answer->length, 0, (struct sockaddr *)&to, sizeof to);
 }
 
+/* Tells the relay something: the tags, and what comes after them, in whole words of four bytes. */
+static void tell(int wire, const struct cue_device *device, const char *what, const char *tags, const void *rest,
+                 size_t length)
+{
+    unsigned char bytes[128] = {0};
+    struct sockaddr_in to = {.sin_family = AF_INET};
+    size_t at;
+    if (!has_relay || cue_place_port(&device->controller) == 0)
+        return;
+    at = (size_t)sprintf((char *)bytes, "/device/%u/%s", (unsigned)device->number, what) / 4 * 4 + 4;
+    strcpy((char *)bytes + at, tags);
+    at += strlen(tags) / 4 * 4 + 4;
+    memcpy(bytes + at, rest, length);
+    to.sin_addr.s_addr = htonl(cue_place_address(&device->controller));
+    to.sin_port = htons(cue_place_port(&device->controller));
+    sendto(wire, bytes, at + length, 0, (struct sockaddr *)&to, sizeof to);
+}
+
+static void tell_why(int wire, const struct cue_device *device)
+{
+    struct { uint32_t number; char words[24]; } rest = {htonl(device->last), "restarted or stopped"};
+    tell(wire, device, "why", ",is", &rest, sizeof rest);
+}
+
+/* Where it is, while it travels and once at rest; and who made it. */
+static void tell_again(int wire, const struct cue_device *device)
+{
+    static int64_t next, who;
+    static int was_moving;
+    int is_moving = trap.order == CUE_MOVE;
+    struct { uint32_t at, goal; char unit[8]; } rest = {htonl((uint32_t)trap.at), htonl((uint32_t)trap.to), "percent"};
+    if (is_moving ? now() >= next : was_moving) {
+        tell(wire, device, "at", ",iis", &rest, sizeof rest);
+        next = now() + 100;
+    }
+    was_moving = is_moving;
+    if (now() >= who && device->last > 0) {
+        tell(wire, device, "who", ",s", "Trap, 4.0\0\0", 12);
+        who = now() + 60000;
+    }
+}
+
 /* Begins an order. The bolt of an earlier number is put back first: then it is drawn anew. */
 static void begin(uint32_t order, const struct cue_device *device)
 {
@@ -141,6 +185,8 @@ static void look(int wire, struct cue_device *device)
         trap.is_drawn = 0;
         if (cue_cannot(device, &answer) == CUE_BAD_CALL)
             answer.length = 0;
+        else
+            tell_why(wire, device);
     } else if (order != CUE_NO_ORDER && time >= trap.end) {
         trap.order = CUE_NO_ORDER;
         trap.is_drawn = order == CUE_PREPARE;
@@ -200,7 +246,8 @@ int main(int count, char **words)
     struct sockaddr_in here = {.sin_family = AF_INET};
     int left, wire = socket(AF_INET, SOCK_DGRAM, 0);
     if (count < 4)
-        return fprintf(stderr, "trap NUMBER PORT KEPT [ADDRESS PORT]\n"), 2;
+        return fprintf(stderr, "trap NUMBER PORT KEPT [ADDRESS PORT [relay]]\n"), 2;
+    has_relay = count > 6;
     open_device(&device, words, count, &first);
     left = first.length > 0 ? 40 : 0;
     here.sin_port = htons((uint16_t)atoi(words[2]));
@@ -218,6 +265,7 @@ int main(int count, char **words)
         if (is_reset)
             is_stopped = is_reset = 0;
         look(wire, &device);
+        tell_again(wire, &device);
         if (is_to_forget && trap.order == CUE_NO_ORDER && !trap.is_drawn) {
             struct cue_place only = device.only;
             is_to_forget = 0;
@@ -231,11 +279,14 @@ int main(int count, char **words)
             left--;
             first.to = device.controller;
             send_answer(wire, &first);
+            tell_why(wire, &device);
             due += 25;
             continue;
         }
         cue_tick(&device, &answer);
         send_answer(wire, &answer);
+        if (answer.length > 0)
+            tell_why(wire, &device);
         due = now() + 250;
     }
 }

@@ -1,12 +1,13 @@
 #!/usr/bin/env python3
 """A box with two axes at one port for the tests: two devices, made from docs/DEVICES.md alone, with nothing of ours.
 
-    two_axes.py FIRST SECOND PORT KEPT [ADDRESS PORT]
+    two_axes.py FIRST SECOND PORT KEPT [ADDRESS PORT [relay]]
 
 Each axis is a hoist with a place of its own. Its part in a cue is two bytes, the height in centimetres, and, if it
 likes, one more byte, the speed in decimetres in a second. It travels at three metres a second, and a motion to where
 it stands is over at once. Its brake opens while it prepares, and closes again when it is at rest or gives up. The file
-KEPT has a line for each axis, its number and the place of its sender. ADDRESS PORT is the one sender that it hears.
+KEPT has a line for each axis, its number and the place of its sender. ADDRESS PORT is the one sender that it hears;
+with `relay` each axis tells it what it may of itself.
 SIGUSR1 is the emergency stop of both, SIGUSR2 resets it, and SIGHUP has the box forget its numbers. For each motion it
 prints a line with `moves`.
 """
@@ -19,6 +20,7 @@ import time
 
 HIGHEST, SPEED, BRAKE = 600, 300, 0.1  # centimetres, centimetres in a second, seconds
 COPY, FIRST, FORTY = 0.25, 0.025, 40
+TENTH, MINUTE = 0.1, 60.0
 
 
 def text_of(text):
@@ -104,6 +106,7 @@ class Axis:
         self.phase, self.cue, self.part = "over", None, None
         self.work = self.work_number = self.end = None
         self.height, self.target = 0, 0
+        self.tells_at, self.tells_who = None, 0.0
         self.next_abort, self.forty = None, 0
         if last:
             self.next_abort, self.forty = time.monotonic(), FORTY
@@ -118,7 +121,7 @@ class Axis:
             self.target = int.from_bytes(self.part[:2], "big")
             takes = abs(self.target - self.height) / speed
             print(f"axis {self.number} attempt {self.last} moves from {self.height} to {self.target}", flush=True)
-        self.end = time.monotonic() + takes
+        self.takes, self.end = takes, time.monotonic() + takes
 
     def can(self):
         """Whether it may be driven to its part."""
@@ -136,6 +139,7 @@ class Axis:
     def fail(self, now):
         self.phase = "failed"
         self.say("abort", self.last)
+        self.tell_why("emergency stop" if self.box.is_stopped else "no height of this hoist")
         self.next_abort = now + COPY
 
     def look(self, now):
@@ -153,8 +157,11 @@ class Axis:
                 else:
                     self.phase = ends[2]
                     self.say(ends[1], self.last)
+        if self.box.has_relay and self.place[1]:
+            self.tell(now)
         if self.next_abort is not None and now >= self.next_abort:
             self.say("abort", self.last)
+            self.tell_why("overrun" if self.box.is_stopped else "restarted or given up")
             self.forty = max(0, self.forty - 1)
             self.next_abort += FIRST if self.forty else COPY
 
@@ -163,6 +170,26 @@ class Axis:
     def say(self, word, number):
         address = f"/device/{self.number}/{word}".encode()
         self.box.wire.sendto(text_of(address) + text_of(b",i") + int_of(number), self.place)
+
+    def tell(self, now):
+        """Where it is, ten times a second and once at rest; and each minute who made it."""
+        is_moving = self.work == "move"
+        if is_moving and self.tells_at is None or self.tells_at is not None and (now >= self.tells_at or not is_moving):
+            done = 1 - max(0.0, self.end - now) / self.takes if is_moving and self.takes else 1
+            at = round(self.height + done * (self.target - self.height))
+            self.claim("at", b",iis", int_of(at) + int_of(self.target) + text_of(b"cm"))
+            self.tells_at = now + TENTH if is_moving else None
+        if now >= self.tells_who:
+            self.tells_who = now + MINUTE
+            self.claim("who", b",s", text_of(b"Two hoists, box 1.0"))
+
+    def tell_why(self, reason):
+        if self.box.has_relay and self.place[1]:
+            self.claim("why", b",is", int_of(self.last) + text_of(reason.encode()))
+
+    def claim(self, word, tags, rest):
+        address = f"/device/{self.number}/{word}".encode()
+        self.box.wire.sendto(text_of(address) + text_of(tags) + rest, self.place)
 
     def hear_reply(self, text, _):
         if text == f"/device/{self.number}/abort".encode() and not self.forty:
@@ -228,8 +255,8 @@ class Axis:
 class Box:
     """Both axes, their port and their file."""
 
-    def __init__(self, numbers, port, kept, only, kinds=(Axis, Axis)):
-        self.kept, self.only, self.is_stopped = kept, only, False
+    def __init__(self, numbers, port, kept, only, kinds=(Axis, Axis), has_relay=False):
+        self.kept, self.only, self.is_stopped, self.has_relay = kept, only, False, has_relay
         self.wire = socket.socket(socket.AF_INET, socket.SOCK_DGRAM)
         self.wire.bind(("127.0.0.1", port))
         self.wire.setblocking(False)
@@ -300,7 +327,7 @@ class Box:
 
 def main(words, *kinds):
     only = (words[4], int(words[5])) if len(words) > 5 else None
-    box = Box([int(words[0]), int(words[1])], int(words[2]), words[3], only, *kinds)
+    box = Box([int(words[0]), int(words[1])], int(words[2]), words[3], only, *kinds, has_relay=words[6:] == ["relay"])
     for number in (signal.SIGHUP, signal.SIGUSR1, signal.SIGUSR2):
         signal.signal(number, box.on_signal)
     box.run()

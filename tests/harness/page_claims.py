@@ -10,6 +10,7 @@ SPEAKING = """return document.querySelectorAll(
   "#network [aria-live], #network [role=status], #network [role=alert]").length"""
 STOP = "emergency stop pulled"
 WORDS = SHOWN[:48]
+QUOTED = '"' + WORDS.replace('"', "'") + '"'  # words never end their own quotation
 
 
 def by_one_that_rests(page, told):
@@ -17,7 +18,7 @@ def by_one_that_rests(page, told):
     told.told = {"claims": {4: {"at": [(-2000, 4000, "mm")], "who": [WORDS]}, 8: {"at": [(7, 7, "")]}}}
     check("where a device says that it is stands in the list",
           page.shows("says-4", "told by the device: at -2000 of 4000 mm"))
-    check("and who made it, as text alone", page.text("says-4").endswith(f'it is "{WORDS}"'))
+    check("and who made it, as text alone", page.text("says-4").endswith(f"it is {QUOTED}"))
     check("one without a unit has none", page.text("says-8") == "told by the device: at 7 of 7")
     check("one that does not move has no bar", page.run(WAY, 4) is None)
     told.told = {}

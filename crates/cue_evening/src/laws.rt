@@ -1,6 +1,7 @@
 //! What holds of the log over whole evenings.
 ghost use Rattle.std.specs.Prelude.{◌≡◌, ◌+◌, length, IfOk};
 ghost use Rattle.cue_evening.specs.Refusals.{times_of};
+ghost use Rattle.cue_evening.specs.declared.refusals.TheConstants.{MOST, SECOND};
 
 use crate::refusals::Refusals;
 use std::alloc::{AllocError, Global};
@@ -22,3 +23,9 @@ pub fn each_is_told_or_counted(
     }
     Ok((told, heard))
 }
+
+/// At most 20 refusals are told within 1,000 milliseconds.
+pub fn limits()
+    ensures most { MOST ≡ 20 }
+    ensures second { SECOND ≡ 1000 }
+{}

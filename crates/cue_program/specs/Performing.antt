@@ -4,10 +4,16 @@ use Rattle.std.specs.Prelude.{None, IfSome}
 use Rattle.std.specs.Io.KnownBytes.{Appends}
 use Rattle.clap.specs.Words.{Row, Text, fault_of, subcommand_of}
 use Rattle.cue_core.specs.State.{ShowState, empty_state}
+use Rattle.cue_disk.specs.declared.disk.Disk.{Ghosts}
+use Rattle.cue_engine.specs.declared.engine.Engine.{Engine}
 use Rattle.cue_keeper.specs.Stands.{Stands}
 use Rattle.cue_command_line.specs.declared.words.Line.{Line}
 use Rattle.cue_command_line.specs.declared.words.Line.TheVariants.{Form, Serve, Show, Script}
 use Rattle.cue_command_line.specs.Lines.{IsLineOf, cuectl_app}
+use Rattle.cue_run.specs.declared.groups.TheConstants.{MAX_TOGETHER}
+use Rattle.cue_run.specs.declared.turns.Ended.{Ended}
+use Rattle.cue_run.specs.Running.{Ran}
+use Rattle.cue_run.specs.Through.{RunsThrough}
 use Rattle.cue_script.specs.Script.{HasRun}
 use Rattle.cue_words.specs.ShowText.{show_text}
 
@@ -29,6 +35,17 @@ pub record IsRunTold (most : ℕ) (old new : Option (List ℕ)) : Type 0 where
   pub unsent : ℕ
   pub at_most : turns ≤ most
   pub printed : Appends old new (turns_text turns unsent)
+
+-- This engine's show was served: a run of at most so many inputs, in groups, ended without a fault, and is reported. What
+-- a socket gave and sent is in no clause.
+pub record HasServed {D : Type 0} {disk : Ghosts D} (most : ℕ) (engine : Engine D disk) (old new : Option (List ℕ))
+    : Type 0 where
+  pub ended : Ended
+  pub left : Engine D disk
+  pub ran : Ran most_read MAX_TOGETHER most ended engine left None None None None
+  pub through : RunsThrough most_read ended.turns engine left None None None None
+  pub well : ended.fault ≡ None
+  pub printed : Appends old new (turns_text ended.turns ended.unsent)
 
 -- A state is printed.
 pub record IsStateTold (old new : Option (List ℕ)) : Type 0 where

@@ -126,6 +126,7 @@ fn bound<R: Files<File = File> + Net + Eprint>(
 }
 
 // Runs the show of a folder at a port. It holds the lock of its store meanwhile, and sees that the files stay there.
+#[tactic(auto, using(crate::proofs::ServeLemmas::is_run_told))]
 fn serve<R: Files<File = File> + Net + Clock + Eprint, W: Write>(
     rt: &R,
     alloc: Global,

@@ -3,7 +3,7 @@ ghost use Rattle.std.specs.Prelude.{◌≡◌, ◌≤◌, [], IfOk, IfSome, IsEr
 ghost use Rattle.std.specs.Io.KnownBytes.{Appends};
 ghost use Rattle.cue_engine.specs.Taking.{IsOffered};
 ghost use Rattle.cue_program.specs.Endings.{run_fault};
-ghost use Rattle.cue_program.specs.Performing.{IsRunTold, most_read, turns_text};
+ghost use Rattle.cue_program.specs.Performing.{HasServed, most_read, turns_text};
 ghost use Rattle.cue_run.specs.Running.{Ran};
 ghost use Rattle.cue_run.specs.Through.{RunsThrough};
 ghost use Rattle.cue_run.specs.declared.groups.TheConstants.{MAX_TOGETHER};
@@ -92,7 +92,10 @@ fn serve_at<'a, R: Clock + Eprint, V: Watch<LoggedWire<UdpWire<'a>>>>(
     turns: u64,
     watch: &mut V,
 ) -> Result<Ended, ProgramFault>
-    ensures { IfOk result (λ ended. ended.turns ≤ turns) }
+    ensures ran { IfOk result (λ ended.
+        Ran most_read MAX_TOGETHER turns ended engine.old engine.new None None None None) }
+    ensures through { IfOk result (λ ended.
+        RunsThrough most_read ended.turns engine.old engine.new None None None None) }
 {
     say_ready(rt, alloc, dir, port);
     serve_beside(rt, alloc, engine, socket, port, turns, watch).map_err(|why| refused_port(
@@ -145,6 +148,7 @@ fn finish<R: Eprint, W: Write>(
     writer: &mut W,
 ) -> Result<(), ProgramFault>
     ensures refused { IfSome ended.fault (λ why. IsErrOf result (run_fault why)) }
+    ensures well { OnOk result (ended.fault ≡ None) }
     ensures printed { OnOk result (Appends (W.contents writer.old) (W.contents writer.new)
         (turns_text ended.turns ended.unsent)) }
 {
@@ -158,6 +162,7 @@ fn finish<R: Eprint, W: Write>(
 }
 
 /// Says that the show of a folder is ready, runs it with a watch that looks on, and prints how the run ended.
+#[tactic(auto, using(crate::proofs::ServeLemmas::has_served))]
 pub(crate) fn serve_watched<'a, R: Clock + Eprint, W: Write, V: Watch<LoggedWire<UdpWire<'a>>>>(
     rt: &'a R,
     alloc: Global,
@@ -169,7 +174,7 @@ pub(crate) fn serve_watched<'a, R: Clock + Eprint, W: Write, V: Watch<LoggedWire
     watch: &mut V,
     writer: &mut W,
 ) -> Result<(), ProgramFault>
-    ensures { OnOk result (IsRunTold turns (W.contents writer.old) (W.contents writer.new)) }
+    ensures served { OnOk result (HasServed turns engine (W.contents writer.old) (W.contents writer.new)) }
 {
     match serve_at(rt, alloc, dir, &mut engine, socket, port, turns, watch) {
         Ok(ended) => finish(rt, alloc, dir, engine, ended, writer),
@@ -192,7 +197,7 @@ pub fn serve_engine<R: Clock + Eprint, W: Write>(
     turns: u64,
     writer: &mut W,
 ) -> Result<(), ProgramFault>
-    ensures { OnOk result (IsRunTold turns (W.contents writer.old) (W.contents writer.new)) }
+    ensures served { OnOk result (HasServed turns engine (W.contents writer.old) (W.contents writer.new)) }
 {
     let mut log = EveningLog::new(rt, alloc);
     serve_watched(

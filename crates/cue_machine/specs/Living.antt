@@ -1,5 +1,5 @@
 -- What a machine's life comes to: what it was fed, what was posted, and why it ended.
-use Rattle.std.specs.Prelude.{◌≡◌, ◌≤◌, ◌⊎◌, ℕ, Bool, true, false, if◌then◌else◌, List, [], ◌∷◌, ◌++◌, length, map, Option}
+use Rattle.std.specs.Prelude.{◌≡◌, ◌≤◌, ◌⊎◌, ℕ, true, false, if◌then◌else◌, List, [], ◌∷◌, ◌++◌, length, map, Option}
 use Rattle.cue_machine.specs.declared.living.Ended.{Ended}
 use Rattle.cue_machine.specs.declared.living.Why.{Why}
 use Rattle.cue_machine.specs.declared.living.Why.TheVariants as reason

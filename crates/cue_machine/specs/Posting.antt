@@ -1,6 +1,5 @@
 -- What a machine gives, and what became of it.
 use Rattle.std.specs.Prelude.{ℕ, Bool, List}
-use Rattle.std.specs.Borrow.{Bor}
 use Rattle.cue_machine.specs.declared.post.Output.{Output}
 
 -- an output with its bytes

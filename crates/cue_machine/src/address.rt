@@ -1,6 +1,6 @@
 //! Who is on a network.
 use std::fmt;
-use std::net::{Ipv4Addr, SocketAddrV4};
+use std::net::Ipv4Addr;
 
 /// An IPv4 address and a port.
 #[derive(Clone, Copy, Debug, PartialEq, Eq)]
@@ -18,17 +18,5 @@ impl fmt::Display for Address {
 
     fn fmt<W: fmt::Write>(&self, f: &mut fmt::Formatter<W>) -> fmt::Result {
         write!(f, "{}:{}", Ipv4Addr::from_bits(self.host), self.port)
-    }
-}
-
-impl Address {
-    /// The address that a text as `10.0.7.31:9001` names, with no port 0 and no host 0.0.0.0.
-    pub fn read(text: &str) -> Option<Address> {
-        let address: SocketAddrV4 = text.parse().ok()?;
-        let (host, port) = (address.ip().to_bits(), address.port());
-        if host == 0 || port == 0 {
-            return None;
-        }
-        Some(Address { host, port })
     }
 }

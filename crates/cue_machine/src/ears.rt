@@ -31,6 +31,10 @@ pub enum Turn {
 pub struct EarsFault;
 
 impl fmt::Display for EarsFault {
+    ghost use Rattle.std.specs.Prelude.{Some, codes};
+
+    ghost output = { λ _. Some (codes "nothing can be heard") };
+
     fn fmt<W: fmt::Write>(&self, f: &mut fmt::Formatter<W>) -> fmt::Result {
         write!(f, "nothing can be heard")
     }

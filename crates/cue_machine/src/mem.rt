@@ -1,5 +1,5 @@
 //! Ears and post in memory, for tests and proofs: they show all that was told and all that went out.
-ghost use Rattle.std.specs.Prelude.{◌≡◌, ◌++◌, [], ◌∷◌, Some, IfSome, OnOk, length, map};
+ghost use Rattle.std.specs.Prelude.{◌≡◌, ◌++◌, [], ◌∷◌, Some, IfSome, OnOk, length, map, option_map, slice_get};
 ghost use Rattle.cue_machine.specs.Hearing.{IsWithin, answer_as};
 ghost use Rattle.cue_machine.specs.Memory.{answer_view, loses_in, posted_by, posted_view, told_by};
 ghost use Rattle.cue_machine.specs.Posting.{posted_as};
@@ -76,7 +76,9 @@ impl MemEars {
     }
 
     /// When each was to be told at the latest, in order, of what was told so far; for tests.
-    pub fn asked(&self, nth: usize) -> Option<Option<u64>> {
+    pub fn asked(&self, nth: usize) -> Option<Option<u64>>
+        ensures { result ≡ option_map (λ t. t.until) (slice_get self.now.told.items nth) }
+    {
         Some(self.told.get(nth)?.until)
     }
 }

@@ -25,6 +25,10 @@ pub enum Output {
 pub struct PostFault;
 
 impl fmt::Display for PostFault {
+    ghost use Rattle.std.specs.Prelude.{Some, codes};
+
+    ghost output = { λ _. Some (codes "it did not go out") };
+
     fn fmt<W: fmt::Write>(&self, f: &mut fmt::Formatter<W>) -> fmt::Result {
         write!(f, "it did not go out")
     }

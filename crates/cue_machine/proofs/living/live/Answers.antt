@@ -1,5 +1,5 @@
 use Rattle.std.proofs.Common.{arith}
-use Rattle.cue_machine.proofs.LivingLemmas.{begun, one_turn_more}
+use Rattle.cue_machine.proofs.LivingLemmas.{one_turn_more}
 use Rattle.cue_machine.proofs.living.live.Goals as goal
 
 pub loop-taken-preserved : goal.loop-taken-preserved

@@ -1,5 +1,3 @@
-use Rattle.std.proofs.Common.{sym, subst, ◌≡◌, ◌∷◌, List}
-use Rattle.std.specs.Prelude.{take}
 use Rattle.cue_machine.proofs.LivingLemmas.{posts_more}
 use Rattle.cue_machine.specs.Posting.{given_as}
 use Rattle.cue_machine.proofs.living.post_all.Goals as goal

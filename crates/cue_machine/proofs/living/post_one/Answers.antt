@@ -1,5 +1,5 @@
-use Rattle.std.proofs.Common.{◌∙◌, refl, sym, ap}
-use Rattle.std.specs.Prelude.{is_err, cond}
+use Rattle.std.proofs.Common.{◌∙◌, refl, sym}
+use Rattle.std.specs.Prelude.{is_err}
 use Rattle.cue_machine.specs.Posting.{posted_as}
 use Rattle.cue_machine.proofs.living.post_one.Goals as goal
 

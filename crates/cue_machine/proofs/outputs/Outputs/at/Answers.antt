@@ -1,5 +1,4 @@
-use Rattle.std.proofs.Common.{◌≡◌, ◌∙◌, List, Some, length, ap, sym, arith, take, drop, ◌-◌, ℕ}
-use Rattle.cue_machine.specs.Posting.{given_as}
+use Rattle.std.proofs.Common.{length, ap, arith}
 use Rattle.cue_machine.proofs.BufferLemmas.{found_at}
 use Rattle.cue_machine.proofs.outputs.Outputs.at.Goals as goal
 

@@ -1,5 +1,4 @@
-use Rattle.std.proofs.Common.{◌≡◌, ◌+◌, ◌≤◌, ◌∙◌, ◌++◌, ℕ, ap, refl, arith, length, length-append}
-use Rattle.std.specs.Vec.{vec_len}
+use Rattle.std.proofs.Common.{◌≡◌, ◌+◌, ◌∙◌, ◌++◌, ap, refl, arith, length, length-append}
 use Rattle.cue_machine.proofs.BufferLemmas.{one_more, within_more, within_one}
 use Rattle.cue_machine.proofs.outputs.Outputs.push.Goals as goal
 

@@ -153,15 +153,17 @@ PLACES = {
 
 
 def for_maker(page):
-    """A page with its links to what the package has; words in place of each other one."""
+    """A page with its links to what the package has, and its tester by the name that it has there; words in place of
+    each other link."""
     def link(found):
         name, _, part = found[2].partition("#")
         if re.match(r"https?:", name):
             return found[0]
         place = PLACES.get(name) if name else ""
         return found[1] if place is None else f"[{found[1]}]({place}{'#' + part if part else ''})"
-    page = re.sub(r"!\[[^]]*\]\([^)]*\)\n*", "", page).replace("python3 tools/try-device", "cue-try-device")
-    return re.sub(r"\[([^]]*)\]\(([^)]*)\)", link, page)
+    page = re.sub(r"!\[[^]]*\]\([^)]*\)\n*", "", page)
+    page = re.sub(r"\[([^]]*)\]\(([^)]*)\)", link, page)
+    return re.sub(r"(?:python3 )?tools/try-device", "cue-try-device", page)
 
 
 def settle(tree, seconds):

@@ -22,7 +22,7 @@ import zlib
 
 REPEAT = 0.25  # seconds between two copies of an abort that nobody asked for
 COPIES, SOON = 40, 0.025  # of it in its first second: so many, and the seconds between two
-MADE = "Example device 1"
+MADE = "Example device 1, protocol 1"
 MINUTE, OFTEN = 60.0, 0.1  # seconds between two claims: who made it; where it is, while it moves
 ORDERS = {"/msc/standby": ",iisb", "/msc/go_2pc": ",ii", "/msc/cancel": ",ii"}
 

@@ -242,7 +242,7 @@ static void tell_again(int wire, const struct cue_device *device)
     }
     claims.is_moving = is_moving;
     if (time >= claims.who && cue_place_port(&device->controller) != 0) {
-        tell(wire, device, "who", ",s", 0, 0, "Example winch 1");
+        tell(wire, device, "who", ",s", 0, 0, "Example winch 1, protocol 1");
         claims.who = time + MINUTE;
     }
 }

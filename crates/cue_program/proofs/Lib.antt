@@ -1,1 +1,2 @@
 mod PerformLemmas
+mod ServeLemmas

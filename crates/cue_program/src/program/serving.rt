@@ -98,9 +98,10 @@ fn serve_at<'a, R: Clock + Eprint, V: Watch<LoggedWire<UdpWire<'a>>>>(
         RunsThrough most_read ended.turns engine.old engine.new None None None None) }
 {
     say_ready(rt, alloc, dir, port);
-    serve_beside(rt, alloc, engine, socket, port, turns, watch).map_err(|why| refused_port(
-        rt, port, why,
-    ))
+    match serve_beside(rt, alloc, engine, socket, port, turns, watch) {
+        Ok(ended) => Ok(ended),
+        Err(why) => Err(refused_port(rt, port, why)),
+    }
 }
 
 // Prints how a run ended.

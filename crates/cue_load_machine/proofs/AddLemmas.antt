@@ -4,7 +4,8 @@ use Rattle.std.specs.Prelude.{Vec}
 use Rattle.std.specs.declared.alloc.Global.{Global}
 use Rattle.cue_loading.specs.declared.manner.Manner.TheVariants as manner
 use Rattle.cue_load_machine.specs.declared.asks.Ask.{Ask}
-use Rattle.cue_load_machine.specs.Addings.{AddsGroups, AddsOne, IsAdding, PushesEach, joined}
+use Rattle.cue_load_machine.specs.Addings.{AddsGroups, AddsOne, HasUnaskable, IsAdding, IsUnaskableGroup}
+use Rattle.cue_load_machine.specs.Addings.{PushesEach}
 use Rattle.cue_load_machine.specs.declared.machine.LoadMachine.{LoadMachine}
 use Rattle.cue_load_machine.specs.Lives.{IsNew}
 use Rattle.cue_load_machine.specs.Steps.{state_of}
@@ -47,6 +48,25 @@ more_groups {E} alone together old mid new all first more e one h = record {
       ∙ append_assoc old (one.first ∷ one.each) h.added);
   same = e ∙ ap (λ (xs : List E). first ++ xs) h.same;
   are = (one.first, one.each, h.added, refl, one.is, one.are, h.are);
+}
+
+-- ---- what cannot be asked
+
+pub has_first : {E : Type 0} (alone : E → Type 0) (together : List E → Type 0) (all first more : List E)
+    → all ≡ first ++ more → IsUnaskableGroup alone together first → HasUnaskable alone together all
+has_first alone together all first more e bad =
+    record { before = []; group = first; after = more; all = e; unaskable = bad }
+
+pub has_later : {E : Type 0} (alone : E → Type 0) (together : List E → Type 0) (all first more : List E)
+    → all ≡ first ++ more → HasUnaskable alone together more → HasUnaskable alone together all
+has_later {E} alone together all first more e bad = record {
+  before = first ++ bad.before;
+  group = bad.group;
+  after = bad.after;
+  all = e
+      ∙ (ap (λ (xs : List E). first ++ xs) bad.all
+      ∙ sym (append_assoc first bad.before (bad.group ++ bad.after)));
+  unaskable = bad.unaskable;
 }
 
 pub is_adding : {E : Type 0} (alone : E → Ask → Type 0) (together : List E → Ask → Type 0) (port : ℕ)

@@ -1,11 +1,10 @@
 -- What a load has done that says it is done.
-use Rattle.std.proofs.Common.{◌≡◌, ℕ, suc, zero, ℤ, ◌<◌, ◌≤◌, ◌+◌, ◌⊎◌, Bool, true, false, cond, List, [], ◌∷◌, length, Option, Some}
+use Rattle.std.proofs.Common.{◌≡◌, ℕ, suc, zero, ◌<◌, ◌≤◌, ◌+◌, Bool, true, false, cond, List, [], ◌∷◌, length, Option, Some}
 use Rattle.std.proofs.Common.{None, refl, sym, ap, ◌∙◌, arith, inl, inr}
 use Rattle.std.specs.Prelude.{min, nat_lt, slice_get}
 use Rattle.std.proofs.Math.Nat.{min-le_left}
 use Rattle.std.proofs.lemmas.Bool.{ltb-false, ltb-true, true≢false}
 use Rattle.std.proofs.lemmas.Option.{none-some}
-use Rattle.cue_machine.specs.Living.{AreTurns, Turn}
 use Rattle.cue_loading.specs.declared.step.Step.{Step}
 use Rattle.cue_load_machine.specs.declared.asks.Ask.{Ask}
 use Rattle.cue_load_machine.specs.declared.asks.Form.{Form}
@@ -16,7 +15,7 @@ use Rattle.cue_load_machine.specs.declared.stage.Stage.{Stage}
 use Rattle.cue_load_machine.specs.declared.stage.Stage.TheVariants as stage
 use Rattle.cue_load_machine.specs.declared.stage.Try.{Try}
 use Rattle.cue_load_machine.specs.Asks.{covers}
-use Rattle.cue_load_machine.specs.Lives.{AreSendings, How, IsSending, Sending, done, late, load_machine, nobody}
+use Rattle.cue_load_machine.specs.Lives.{AreSendings, How, IsSending, Sending, done, late, nobody}
 use Rattle.cue_load_machine.specs.Lives.{stage_after, stops, waits}
 use Rattle.cue_load_machine.specs.Plans.{ARefusalStops, AreAsksOf, EachIsDone, WasDone}
 use Rattle.cue_load_machine.specs.Stages as stages

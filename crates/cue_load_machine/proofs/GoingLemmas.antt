@@ -1,5 +1,5 @@
 -- How a load goes on, and how it begins.
-use Rattle.std.proofs.Common.{◌≡◌, ℕ, ◌+◌, ◌-◌, Bool, true, false, cond, List, [], ◌∷◌, ◌++◌}
+use Rattle.std.proofs.Common.{◌≡◌, ℕ, Bool, true, false, cond, List, [], ◌∷◌, ◌++◌}
 use Rattle.std.proofs.Common.{Option, Some, None, refl, ap, ◌∙◌, inl}
 use Rattle.std.specs.Prelude.{slice_get}
 use Rattle.cue_machine.specs.Living.{Turn, all_posted}

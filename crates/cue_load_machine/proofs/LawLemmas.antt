@@ -1,7 +1,7 @@
 -- What no life of a load does.
-use Rattle.std.proofs.Common.{◌≡◌, ℕ, ◌≤◌, ◌+◌, ◌⊎◌, Bool, true, false, cond, List, [], ◌∷◌, ◌++◌, Option, Some, None}
-use Rattle.std.proofs.Common.{refl, sym, ap, ◌∙◌, subst, arith, append_assoc, append-nil, inl, inr}
-use Rattle.std.specs.Prelude.{nat_lt, slice_get}
+use Rattle.std.proofs.Common.{◌≡◌, ℕ, ◌⊎◌, Bool, true, false, cond, List, [], ◌∷◌, ◌++◌, Option, Some, None}
+use Rattle.std.proofs.Common.{refl, sym, ap, ◌∙◌, subst, append_assoc, append-nil, inl, inr}
+use Rattle.std.specs.Prelude.{slice_get}
 use Rattle.std.proofs.lemmas.Bool.{true≢false}
 use Rattle.cue_machine.specs.Living.{AreTurns, Turn, all_posted}
 use Rattle.cue_machine.specs.Posting.{Posted}
@@ -11,10 +11,9 @@ use Rattle.cue_load_machine.specs.declared.machine.LoadMachine.{LoadMachine}
 use Rattle.cue_load_machine.specs.declared.stage.LoadEnd.TheVariants as end
 use Rattle.cue_load_machine.specs.declared.stage.Stage.{Stage}
 use Rattle.cue_load_machine.specs.declared.stage.Stage.TheVariants as stage
-use Rattle.cue_load_machine.specs.declared.stage.Waits.{Waits}
-use Rattle.cue_load_machine.specs.Lives.{AreSendings, HasCopied, HasSent, IsNew, Sending, Stands}
+use Rattle.cue_load_machine.specs.Lives.{HasCopied, HasSent, Stands}
 use Rattle.cue_load_machine.specs.Lives.{load_machine, post}
-use Rattle.cue_load_machine.specs.Laws.{HadTurns, IsCopiedFirst, NothingGoesUncopied, OneAfterTheOther}
+use Rattle.cue_load_machine.specs.Laws.{IsCopiedFirst, NothingGoesUncopied, OneAfterTheOther}
 use Rattle.cue_load_machine.specs.Stages as stages
 use Rattle.cue_load_machine.specs.Steps.{State, begins, bytes_of, copies, copy_given, first_stage, gives_at, state_of}
 use Rattle.cue_load_machine.specs.Steps.{state_then, then_at, with_stage}

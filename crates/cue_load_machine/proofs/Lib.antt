@@ -8,6 +8,7 @@ mod OftenLemmas
 mod TimeLemmas
 mod PlanLemmas
 mod AddLemmas
+mod SayingLemmas
 mod TwiceLemmas
 mod AnswerLemmas
 mod DoneLemmas

@@ -1,7 +1,7 @@
 -- How often a message is sent.
-use Rattle.std.proofs.Common.{◌≡◌, ℕ, ◌≤◌, ◌<◌, ◌+◌, ◌-◌, ◌⊎◌, Bool, true, false, cond, List, [], ◌∷◌, Option, Some}
+use Rattle.std.proofs.Common.{◌≡◌, ℕ, ◌<◌, ◌-◌, ◌⊎◌, Bool, true, false, cond, [], ◌∷◌, Option, Some}
 use Rattle.std.proofs.Common.{None}
-use Rattle.std.proofs.Common.{refl, sym, ap, ◌∙◌, subst, arith, inl, inr}
+use Rattle.std.proofs.Common.{refl, sym, ap, ◌∙◌, arith, inl, inr}
 use Rattle.std.specs.Prelude.{nat_lt, slice_get}
 use Rattle.std.proofs.lemmas.Bool.{ltb-true, true≢false}
 use Rattle.std.proofs.lemmas.Option.{same_Some}
@@ -12,8 +12,8 @@ use Rattle.cue_load_machine.specs.declared.stage.Stage.{Stage}
 use Rattle.cue_load_machine.specs.declared.stage.Stage.TheVariants as stage
 use Rattle.cue_load_machine.specs.declared.stage.Try.{Try}
 use Rattle.cue_load_machine.specs.Asks.{sendings}
-use Rattle.cue_load_machine.specs.Laws.{AllMayBeSent, IsAgain, IsFirst, SentAsOftenAsMayBe}
-use Rattle.cue_load_machine.specs.Lives.{AreSendings, How, Sending, done, late, nobody, stage_after, stops, waits}
+use Rattle.cue_load_machine.specs.Laws.{IsAgain, IsFirst, SentAsOftenAsMayBe}
+use Rattle.cue_load_machine.specs.Lives.{How, Sending, done, late, nobody, stage_after, stops, waits}
 use Rattle.cue_load_machine.specs.Stages.{again, next_place, next_socket, spent}
 use Rattle.cue_load_machine.specs.Steps.{State, begins_with, given_up}
 

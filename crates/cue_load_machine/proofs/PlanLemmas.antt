@@ -1,12 +1,11 @@
 -- What a plan asks.
-use Rattle.std.proofs.Common.{◌≡◌, ℕ, suc, zero, ◌+◌, Bool, true, false, cond, ◌||◌, List, [], ◌∷◌, ◌++◌, length}
+use Rattle.std.proofs.Common.{◌≡◌, ℕ, suc, zero, Bool, true, false, cond, ◌||◌, List, [], ◌∷◌, ◌++◌, length}
 use Rattle.std.proofs.Common.{Option}
-use Rattle.std.proofs.Common.{Some, None, refl, sym, ap, ◌∙◌, subst, arith, append_assoc, append-nil}
+use Rattle.std.proofs.Common.{Some, None, refl, sym, ap, ◌∙◌, subst, append_assoc, append-nil}
 use Rattle.std.specs.Prelude.{Vec, IsSomeAnd, IsTrue, is_some, slice_get}
 use Rattle.std.specs.declared.alloc.Global.{Global}
 use Rattle.std.proofs.lemmas.Option.{none-some, same_Some}
 use Rattle.cue_show.specs.Show.{ShowLists}
-use Rattle.cue_machine.specs.Living.{Turn, all_posted}
 use Rattle.cue_desk.specs.declared.asking.Asked.{Asked}
 use Rattle.cue_loading.specs.declared.manner.Manner.{Manner}
 use Rattle.cue_loading.specs.declared.step.Step.{Step}
@@ -15,14 +14,12 @@ use Rattle.cue_load_machine.specs.declared.asks.Ask.{Ask}
 use Rattle.cue_load_machine.specs.declared.asks.Refusal.TheVariants as refusal
 use Rattle.cue_load_machine.specs.declared.machine.LoadMachine.{LoadMachine}
 use Rattle.cue_load_machine.specs.declared.planned.Copied.{Copied}
-use Rattle.cue_load_machine.specs.declared.planned.Planned.{Planned}
 use Rattle.cue_load_machine.specs.declared.stage.Stage.{Stage}
 use Rattle.cue_load_machine.specs.declared.stage.Stage.TheVariants as stage
-use Rattle.cue_load_machine.specs.Laws.{HadTurns, IsCopiedFirst}
 use Rattle.cue_load_machine.specs.Letters.{IsAskOf, IsAskOfStep, IsAsking, IsOne}
 use Rattle.cue_load_machine.specs.Lives.{AreSendings, IsNew, Sending}
-use Rattle.cue_load_machine.specs.Plans.{AllOfPlan, AreAsksOf, IsMachineOf, IsOfPlan, IsPlanned, PushesAsks}
-use Rattle.cue_load_machine.specs.Plans.{NothingTakenUncopied, SentByThePlan, copy_for, is_exact, removes_some}
+use Rattle.cue_load_machine.specs.Plans.{AllOfPlan, AreAsksOf, IsMachineOf, IsOfPlan, PushesAsks}
+use Rattle.cue_load_machine.specs.Plans.{NothingTakenUncopied, SentByThePlan, copy_for, removes_some}
 use Rattle.cue_load_machine.specs.Steps.{bytes_of, state_of}
 use Rattle.cue_load_machine.proofs.LawLemmas.{nothing-goes-uncopied}
 

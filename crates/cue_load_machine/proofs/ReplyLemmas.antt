@@ -10,7 +10,7 @@ use Rattle.cue_load_machine.specs.declared.stage.Waits.{Waits}
 use Rattle.cue_load_machine.specs.Asks.{stops_by}
 use Rattle.cue_load_machine.specs.Lives.{AllGoOn, NoneRefused, put, replies_in, since_by, since_in, waits_after}
 use Rattle.cue_load_machine.specs.Lives.{waits_by}
-use Rattle.cue_load_machine.specs.Stages.{next_slot, one_less}
+use Rattle.cue_load_machine.specs.Stages.{next_slot}
 use Rattle.cue_load_machine.specs.Steps.{is_refused, reply_to}
 
 pub replies_more : (port : ℕ) (a : Ask) (socket : ℕ) (ts : List Turn) (t : Turn)

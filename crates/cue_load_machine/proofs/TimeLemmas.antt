@@ -1,5 +1,5 @@
 -- When a load wakes.
-use Rattle.std.proofs.Common.{◌≡◌, ℕ, ◌≤◌, ◌+◌, ◌⊎◌, Bool, true, false, cond, List, [], ◌∷◌, ◌++◌, length, Option}
+use Rattle.std.proofs.Common.{◌≡◌, ℕ, ◌+◌, ◌⊎◌, Bool, true, false, cond, List, [], ◌∷◌, ◌++◌, length, Option}
 use Rattle.std.proofs.Common.{Some, None}
 use Rattle.std.proofs.Common.{refl, sym, ap, ◌∙◌, arith, append_assoc, inl, inr}
 use Rattle.std.specs.Prelude.{nat_lt, slice_get}
@@ -7,7 +7,6 @@ use Rattle.std.proofs.Math.Nat.{min-le_left}
 use Rattle.std.proofs.lemmas.Bool.{true≢false}
 use Rattle.cue_machine.specs.Living.{AreTurns, Turn}
 use Rattle.cue_machine.specs.Posting.{Posted}
-use Rattle.cue_desk.specs.declared.replying.Replied.{Replied}
 use Rattle.cue_load_machine.specs.declared.asks.Ask.{Ask}
 use Rattle.cue_load_machine.specs.declared.asks.Form.{Form}
 use Rattle.cue_load_machine.specs.declared.asks.Form.TheVariants as form

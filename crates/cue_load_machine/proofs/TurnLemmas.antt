@@ -7,7 +7,6 @@ use Rattle.cue_machine.specs.Living.{IsTurn, Turn, after_loss_of, after_losses, 
 use Rattle.cue_machine.specs.Posting.{Given, Posted, given_of}
 use Rattle.cue_load_machine.specs.declared.asks.Ask.{Ask}
 use Rattle.cue_load_machine.specs.declared.machine.LoadMachine.{LoadMachine}
-use Rattle.cue_load_machine.specs.declared.stage.Stage.{Stage}
 use Rattle.cue_load_machine.specs.Lives.{load_machine, post}
 use Rattle.cue_load_machine.specs.Stages as stages
 use Rattle.cue_load_machine.specs.Steps.{State, after_loss, gives, message_given, state_of, state_then, with_stage}

@@ -1,6 +1,6 @@
 -- A step that is taken twice.
 use Rattle.std.proofs.Common.{◌≡◌, ℕ, Bool, true, false, cond, ◌&&◌, not, List, [], ◌∷◌, ◌++◌, Option, Some, None}
-use Rattle.std.proofs.Common.{refl, sym, ap, ◌∙◌, subst, inl, inr}
+use Rattle.std.proofs.Common.{refl, ap, ◌∙◌, subst, inl, inr}
 use Rattle.std.specs.Prelude.{IsTrue, is_some, nat_eq}
 use Rattle.std.specs.Cmp.{nat_eq_equiv}
 use Rattle.std.specs.Map.{lookup}
@@ -15,9 +15,8 @@ use Rattle.cue_show.specs.DeviceNumber.{is_device, is_port}
 use Rattle.cue_show.proofs.ChangeLemmas.{port_of-without_device}
 use Rattle.cue_show.proofs.ShowLemmas.{parts_of-without_cue}
 use Rattle.cue_show.proofs.TextLemmas.{same_text-itself}
-use Rattle.cue_loading.specs.declared.step.Step.{Step}
 use Rattle.cue_loading.specs.declared.step.Step.TheVariants as step
-use Rattle.cue_loading.specs.Steps.{after_step, if_taken}
+use Rattle.cue_loading.specs.Steps.{if_taken}
 use Rattle.cue_load_machine.specs.Plans.{ChangesNothingMore, TwiceIsOnce}
 
 is_taken : (b : Bool) (u t : ShowLists) → if_taken b u ≡ Some t → (b ≡ true) × (u ≡ t)

@@ -1,5 +1,5 @@
 -- What a load asks that adds what a show file has.
-use Rattle.std.specs.Prelude.{◌≡◌, ℕ, List, [], ◌∷◌, ◌++◌, Option, Some, None, ⊤}
+use Rattle.std.specs.Prelude.{◌≡◌, ◌⊎◌, ℕ, List, [], ◌∷◌, ◌++◌, None, ⊤}
 use Rattle.cue_loading.specs.declared.manner.Manner.TheVariants as manner
 use Rattle.cue_load_machine.specs.declared.asks.Ask.{Ask}
 use Rattle.cue_load_machine.specs.declared.machine.LoadMachine.{LoadMachine}
@@ -57,3 +57,22 @@ pub record IsAdding {E : Type 0} (alone : E → Ask → Type 0) (together : List
   pub sends_to : m.port ≡ port
   pub manner : m.manner ≡ manner.Adds
   pub new : IsNew (state_of m)
+
+-- ---- what cannot be asked
+
+-- P holds of one of these
+abbrev pub AnyOf : {E : Type 0} → (E → Type 0) → List E → Type 0
+AnyOf P [] = ⊥
+AnyOf P (e ∷ es) = P e ⊎ AnyOf P es
+
+-- a group that cannot be asked together, or of which one cannot be asked alone
+abbrev pub IsUnaskableGroup : {E : Type 0} → (E → Type 0) → (List E → Type 0) → List E → Type 0
+IsUnaskableGroup alone together group = together group ⊎ AnyOf alone group
+
+-- Some of the entries, which stand together, are such a group.
+pub record HasUnaskable {E : Type 0} (alone : E → Type 0) (together : List E → Type 0) (entries : List E) : Type 0 where
+  pub before : List E
+  pub group : List E
+  pub after : List E
+  pub all : entries ≡ before ++ (group ++ after)
+  pub unaskable : IsUnaskableGroup alone together group

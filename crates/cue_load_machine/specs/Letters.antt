@@ -1,5 +1,5 @@
 -- The messages of a load.
-use Rattle.std.specs.Prelude.{◌≡◌, ℕ, pos, Bool, true, false, List, [], ◌∷◌, length, map, take, Ok}
+use Rattle.std.specs.Prelude.{◌≡◌, ◌⊎◌, ℕ, pos, Bool, true, false, List, [], ◌∷◌, length, map, take, Ok}
 use Rattle.cue_osc.specs.Argument.{int, text}
 use Rattle.cue_osc.specs.Content.{Content, bundle, contents_of, message}
 use Rattle.cue_osc.specs.Reading.{datagram_at}
@@ -10,7 +10,7 @@ use Rattle.cue_operator.specs.declared.method.Method.{Method}
 use Rattle.cue_operator.specs.declared.method.Method.TheVariants as method
 use Rattle.cue_desk.specs.declared.asking.Asked.{Asked}
 use Rattle.cue_desk.specs.declared.asking.Asked.TheVariants as asked
-use Rattle.cue_desk.specs.Asks.{flagged_parts, method_of}
+use Rattle.cue_desk.specs.Asks.{IsUnwritable, flagged_parts, is_askable, method_of}
 use Rattle.cue_desk.specs.Loading.{cue_message, device_message, message_of}
 use Rattle.cue_ask_machine.specs.declared.letters.Letter.{Letter}
 use Rattle.cue_loading.specs.declared.step.Step.{Step}
@@ -45,6 +45,16 @@ pub record IsAskOf (a : Asked) (f : Refusal) (ask : Ask) : Type 0 where
   pub form : ask.form ≡ form.Alone
   pub refusal : ask.refusal ≡ f
 
+-- it has a number or parts that there are not, or OSC has no datagram for it
+abbrev pub IsUnaskable : Asked → Type 0
+IsUnaskable a = (is_askable a ≡ false) ⊎ IsUnwritable (message_of a)
+
+-- What would ask this cannot be asked.
+pub record CannotBeSaid (said : Content) : Type 0 where
+  pub asked : Asked
+  pub says : message_of asked ≡ said
+  pub unaskable : IsUnaskable asked
+
 -- ---- a step of a plan
 
 -- at which address a step is asked, with which arguments
@@ -63,6 +73,9 @@ message_of_step (step.AddCue c parts) =
 message_of_step (step.RemoveDevice d) = message (address_of (method_of_step (step.RemoveDevice d))) []
 message_of_step (step.RemoveCue c) = message (address_of (method_of_step (step.RemoveCue c))) []
 message_of_step (step.MovePlace c) = message (address_of (method_of_step (step.MovePlace c))) []
+
+abbrev pub IsUnaskableStep : Step → Type 0
+IsUnaskableStep s = CannotBeSaid (message_of_step s)
 
 -- it takes something away
 abbrev pub removes : Step → Bool
@@ -123,6 +136,22 @@ AsksForDevices entries ask =
 
 abbrev pub AsksForCues : List CueEntry → Ask → Type 0
 AsksForCues entries ask = AsksForAll (address_of method.AddMixedCue) (map cue_message entries) (length entries) ask
+
+-- OSC has no datagram for all of these
+abbrev pub AreTooMany : List Content → Type 0
+AreTooMany messages = IsUnwritable (bundle 1 (contents_of messages))
+
+abbrev pub AreTooManyDevices : List DeviceEntry → Type 0
+AreTooManyDevices entries = AreTooMany (map device_message entries)
+
+abbrev pub AreTooManyCues : List CueEntry → Type 0
+AreTooManyCues entries = AreTooMany (map cue_message entries)
+
+abbrev pub IsUnaskableDevice : DeviceEntry → Type 0
+IsUnaskableDevice e = CannotBeSaid (device_message e)
+
+abbrev pub IsUnaskableCue : CueEntry → Type 0
+IsUnaskableCue e = CannotBeSaid (cue_message e)
 
 -- and these ask for one of them alone; whatever is refused, the load goes on
 abbrev pub AsksForOne : Method → Content → Ask → Type 0

@@ -8,7 +8,6 @@ use Rattle.cue_machine.specs.Posting.{Given, Posted}
 use Rattle.cue_desk.specs.declared.replying.Replied.{Replied}
 use Rattle.cue_loading.specs.Steps.{goes_on}
 use Rattle.cue_load_machine.specs.declared.asks.Ask.{Ask}
-use Rattle.cue_load_machine.specs.declared.asks.Form.{Form}
 use Rattle.cue_load_machine.specs.declared.asks.Refusal.{Refusal}
 use Rattle.cue_load_machine.specs.declared.machine.LoadMachine.{LoadMachine}
 use Rattle.cue_load_machine.specs.declared.stage.LoadEnd.TheVariants as end

@@ -21,7 +21,8 @@ use Rattle.cue_load_machine.specs.declared.stage.LoadEnd.TheVariants as end
 use Rattle.cue_load_machine.specs.declared.stage.Stage.{Stage}
 use Rattle.cue_load_machine.specs.declared.stage.Stage.TheVariants as stage
 use Rattle.cue_load_machine.specs.Laws.{HadTurns, IsCopiedFirst}
-use Rattle.cue_load_machine.specs.Letters.{IsAskOfStep, removes, subject_of}
+use Rattle.cue_load_machine.specs.Addings.{AnyOf}
+use Rattle.cue_load_machine.specs.Letters.{IsAskOfStep, IsUnaskableStep, removes, subject_of}
 use Rattle.cue_load_machine.specs.Lives.{AreSendings, IsNew, IsSending, Sending, done, load_machine}
 use Rattle.cue_load_machine.specs.Stages.{asked_at, place_of}
 use Rattle.cue_load_machine.specs.Steps.{State, bytes_of, state_of}
@@ -83,6 +84,12 @@ pub record IsPlanned (port : ℕ) (manner : Manner) (file stored : ShowLists) (c
     pub loads : Loads (is_exact manner) file stored p.steps.items
     pub machine : IsMachineOf port manner copied p.steps.items p.machine
     pub takes : goes_on manner false ≡ false
+
+-- The steps are such a plan, and one of them cannot be asked.
+pub record IsUnaskablePlan (manner : Manner) (file stored : ShowLists) : Type 0 where
+  pub steps : List Step
+  pub loads : Loads (is_exact manner) file stored steps
+  pub unaskable : AnyOf IsUnaskableStep steps
 
 -- ---- what leaves
 

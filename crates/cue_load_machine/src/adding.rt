@@ -1,10 +1,12 @@
 //! A load that adds what a show file has: as many devices or cues by one datagram as fit into it, and each by itself
 //! if one of the replies to that does not come. A datagram is carried out whole or not at all, so cues that are new
 //! come in the order of the file, also if one was lost and each is asked again.
-ghost use Rattle.std.specs.Prelude.{◌≡◌, ◌≤◌, ◌<◌, List, IfOk, OnOk, length};
+ghost use Rattle.std.specs.Prelude.{◌≡◌, ◌≤◌, ◌<◌, List, IfOk, IsErrOf, OnOk, length};
+ghost use Rattle.cue_desk.specs.declared.asking.AskFault.TheVariants.{Unwritable};
 ghost use Rattle.cue_load_machine.specs.declared.asks.Ask.{Ask as ask};
 ghost use Rattle.cue_show_file.specs.declared.mistake.Subject.{Subject as subject};
-ghost use Rattle.cue_load_machine.specs.Addings.{AddsOne, AddsGroups, IsAdding, PushesEach};
+ghost use Rattle.cue_load_machine.specs.Addings.{AddsOne, AddsGroups, AnyOf, HasUnaskable, IsAdding, IsUnaskableGroup};
+ghost use Rattle.cue_load_machine.specs.Addings.{PushesEach};
 ghost use Rattle.cue_load_machine.specs.Letters as letter;
 
 use crate::asks::{Ask, Refusal, push_ask};
@@ -23,6 +25,12 @@ pub trait Entry: Sized {
     /// This asks for all of these.
     ghost asks_together: { List Self → ask → Type 0 };
 
+    /// It cannot be asked for alone.
+    ghost cannot_alone: { Self → Type 0 };
+
+    /// There is no datagram that asks for all of these.
+    ghost cannot_together: { List Self → Type 0 };
+
     /// What it is called.
     ghost called: { Self → subject };
 
@@ -30,13 +38,15 @@ pub trait Entry: Sized {
     fn subject(&self) -> Subject
         ensures { result ≡ called self.now };
 
-    /// What asks for it to be added.
+    /// What asks for it to be added. `Unwritable` if it cannot be asked for.
     fn alone(&self, alloc: Global) -> Result<Ask, AskFault>
-        ensures { IfOk result (λ found. asks_alone self.now found) };
+        ensures asks { IfOk result (λ found. asks_alone self.now found) }
+        ensures unwritable { IsErrOf result Unwritable → cannot_alone self.now };
 
-    /// What asks for these to be added, by one datagram.
+    /// What asks for these to be added, by one datagram. `Unwritable` if OSC has none for them.
     fn together(alloc: Global, entries: &[Self]) -> Result<Ask, AskFault>
-        ensures { IfOk result (λ found. asks_together entries.now found) };
+        ensures asks { IfOk result (λ found. asks_together entries.now found) }
+        ensures unwritable { IsErrOf result Unwritable → cannot_together entries.now };
 
     /// How many of the first of these one datagram adds: those that fit into it, and at least one.
     fn that_fit(entries: &[Self]) -> usize
@@ -48,6 +58,10 @@ impl Entry for DeviceEntry {
     ghost asks_alone = { letter.AsksForDevice };
 
     ghost asks_together = { letter.AsksForDevices };
+
+    ghost cannot_alone = { letter.IsUnaskableDevice };
+
+    ghost cannot_together = { letter.AreTooManyDevices };
 
     ghost called = { letter.device_called };
 
@@ -73,6 +87,10 @@ impl Entry for CueEntry {
 
     ghost asks_together = { letter.AsksForCues };
 
+    ghost cannot_alone = { letter.IsUnaskableCue };
+
+    ghost cannot_together = { letter.AreTooManyCues };
+
     ghost called = { letter.cue_called };
 
     fn subject(&self) -> Subject {
@@ -96,7 +114,8 @@ impl Entry for CueEntry {
 // Puts what asks for each of these alone after the others.
 #[tactic(auto, using(crate::proofs::AddLemmas::each_none, crate::proofs::AddLemmas::each_more))]
 fn push_each<E: Entry>(alloc: Global, asks: &mut Vec<Ask>, entries: &[E]) -> Result<(), AskFault>
-    ensures { OnOk result (PushesEach E.asks_alone asks.old.items entries.now asks.new.items) }
+    ensures pushes { OnOk result (PushesEach E.asks_alone asks.old.items entries.now asks.new.items) }
+    ensures unwritable { IsErrOf result Unwritable → AnyOf E.cannot_alone entries.now }
 {
     match entries {
         [] => Ok(()),
@@ -110,16 +129,19 @@ fn push_each<E: Entry>(alloc: Global, asks: &mut Vec<Ask>, entries: &[E]) -> Res
 // Puts what asks for these together after the others, and then what asks for each alone.
 #[tactic(auto, using(crate::proofs::AddLemmas::one_group))]
 fn push_group<E: Entry>(alloc: Global, asks: &mut Vec<Ask>, entries: &[E]) -> Result<(), AskFault>
-    ensures { OnOk result (AddsOne E.asks_alone E.asks_together asks.old.items entries.now asks.new.items) }
+    ensures adds { OnOk result (AddsOne E.asks_alone E.asks_together asks.old.items entries.now asks.new.items) }
+    ensures unwritable { IsErrOf result Unwritable
+        → IsUnaskableGroup E.cannot_alone E.cannot_together entries.now }
 {
     push_ask(asks, E::together(alloc, entries)?)?;
     push_each(alloc, asks, entries)
 }
 
 // Puts what asks for all of these after the others, by groups.
-#[tactic(auto, using(crate::proofs::AddLemmas::no_groups, crate::proofs::AddLemmas::more_groups))]
+#[tactic(auto, using(crate::proofs::AddLemmas::no_groups, crate::proofs::AddLemmas::more_groups, crate::proofs::AddLemmas::has_first, crate::proofs::AddLemmas::has_later))]
 fn push_groups<E: Entry>(alloc: Global, asks: &mut Vec<Ask>, entries: &[E]) -> Result<(), AskFault>
-    ensures { OnOk result (AddsGroups E.asks_alone E.asks_together asks.old.items entries.now asks.new.items) }
+    ensures adds { OnOk result (AddsGroups E.asks_alone E.asks_together asks.old.items entries.now asks.new.items) }
+    ensures unwritable { IsErrOf result Unwritable → HasUnaskable E.cannot_alone E.cannot_together entries.now }
 {
     if entries.is_empty() {
         return Ok(());
@@ -129,14 +151,15 @@ fn push_groups<E: Entry>(alloc: Global, asks: &mut Vec<Ask>, entries: &[E]) -> R
     push_groups(alloc, asks, more)
 }
 
-/// The machine that adds these to what the store has.
+/// The machine that adds these to what the store has. `Unwritable` if one of them cannot be asked for.
 #[tactic(auto, using(crate::proofs::AddLemmas::is_adding))]
 pub fn add_entries<E: Entry>(
     alloc: Global,
     port: u16,
     entries: &[E],
 ) -> Result<LoadMachine, AskFault>
-    ensures { IfOk result (λ m. IsAdding E.asks_alone E.asks_together port entries.now m) }
+    ensures adds { IfOk result (λ m. IsAdding E.asks_alone E.asks_together port entries.now m) }
+    ensures unwritable { IsErrOf result Unwritable → HasUnaskable E.cannot_alone E.cannot_together entries.now }
 {
     let mut asks = Vec::new(alloc);
     push_groups(alloc, &mut asks, entries)?;

@@ -1,5 +1,7 @@
 //! The messages of a load, and what their replies are read by.
-ghost use Rattle.std.specs.Prelude.{◌≡◌, IfOk};
+ghost use Rattle.std.specs.Prelude.{◌≡◌, IfOk, IsErrOf};
+ghost use Rattle.cue_desk.specs.Loading.{message_of};
+ghost use Rattle.cue_desk.specs.declared.asking.AskFault.TheVariants.{Unwritable};
 ghost use Rattle.cue_load_machine.specs.Letters as letter;
 
 use crate::asks::{Ask, Form, Refusal, push_ask};
@@ -8,7 +10,7 @@ use cue_desk::asking::{AskFault, Asked, address, bundle_of_cues, bundle_of_devic
 use cue_loading::Step;
 use cue_operator::CueVerb;
 use cue_show_file::{CueEntry, DeviceEntry};
-use std::alloc::Global;
+use std::alloc::{AllocError, Global};
 
 /// How many bytes of an address a reply shows.
 const SHOWN: usize = 64;
@@ -29,7 +31,8 @@ fn is_status(asked: &Asked<'_>) -> bool
 
 /// The letter that asks it, by itself.
 fn letter_of(alloc: Global, asked: &Asked<'_>) -> Result<Letter, AskFault>
-    ensures { IfOk result (λ l. letter.IsLetterOf asked.now l) }
+    ensures asks { IfOk result (λ l. letter.IsLetterOf asked.now l) }
+    ensures unwritable { IsErrOf result Unwritable → letter.IsUnaskable asked.now }
 {
     if !asked.is_askable() {
         return Err(AskFault::Unwritable);
@@ -46,8 +49,10 @@ fn letter_of(alloc: Global, asked: &Asked<'_>) -> Result<Letter, AskFault>
 }
 
 /// What asks this alone.
+#[tactic(auto, using(crate::proofs::SayingLemmas::cannot_be_said))]
 pub(crate) fn ask_of(alloc: Global, asked: &Asked<'_>, refusal: Refusal) -> Result<Ask, AskFault>
-    ensures { IfOk result (λ ask. letter.IsAskOf asked.now refusal ask) }
+    ensures asks { IfOk result (λ ask. letter.IsAskOf asked.now refusal ask) }
+    ensures unwritable { IsErrOf result Unwritable → letter.CannotBeSaid (message_of asked.now) }
 {
     Ok(Ask {
         letter: letter_of(alloc, asked)?,
@@ -59,7 +64,8 @@ pub(crate) fn ask_of(alloc: Global, asked: &Asked<'_>, refusal: Refusal) -> Resu
 /// What asks this, and nothing else.
 #[tactic(auto, using(crate::proofs::PlanLemmas::is_one))]
 pub(crate) fn asks_of(alloc: Global, asked: &Asked<'_>) -> Result<Vec<Ask>, AskFault>
-    ensures { IfOk result (λ asks. letter.IsOne asked.now asks.items) }
+    ensures asks { IfOk result (λ asks. letter.IsOne asked.now asks.items) }
+    ensures unwritable { IsErrOf result Unwritable → letter.CannotBeSaid (message_of asked.now) }
 {
     let mut asks = Vec::new(alloc);
     push_ask(&mut asks, ask_of(alloc, asked, Refusal::GoesOn)?)?;
@@ -68,7 +74,8 @@ pub(crate) fn asks_of(alloc: Global, asked: &Asked<'_>) -> Result<Vec<Ask>, AskF
 
 /// What asks this step of a plan. If it is refused, the load stops; but what is not there is removed.
 pub(crate) fn ask_of_step(alloc: Global, step: &Step) -> Result<Ask, AskFault>
-    ensures { IfOk result (λ ask. letter.IsAskOfStep step.now ask) }
+    ensures asks { IfOk result (λ ask. letter.IsAskOfStep step.now ask) }
+    ensures unwritable { IsErrOf result Unwritable → letter.IsUnaskableStep step.now }
 {
     match step {
         Step::AddDevice(device, port) => {
@@ -93,7 +100,8 @@ pub(crate) fn ask_of_step(alloc: Global, step: &Step) -> Result<Ask, AskFault>
 
 /// What asks for this device alone; if it is refused, the load goes on.
 pub(crate) fn ask_of_device(alloc: Global, entry: &DeviceEntry) -> Result<Ask, AskFault>
-    ensures { IfOk result (λ ask. letter.AsksForDevice entry.now ask) }
+    ensures asks { IfOk result (λ ask. letter.AsksForDevice entry.now ask) }
+    ensures unwritable { IsErrOf result Unwritable → letter.IsUnaskableDevice entry.now }
 {
     let ask = ask_of_step(alloc, &Step::AddDevice(entry.number, entry.port))?;
     Ok(Ask {
@@ -104,7 +112,12 @@ pub(crate) fn ask_of_device(alloc: Global, entry: &DeviceEntry) -> Result<Ask, A
 }
 
 // What asks several things at one address.
-fn together(alloc: Global, address: &[u8], message: Vec<u8>, count: usize) -> Result<Ask, AskFault>
+fn together(
+    alloc: Global,
+    address: &[u8],
+    message: Vec<u8>,
+    count: usize,
+) -> Result<Ask, AllocError>
     ensures { IfOk result (λ ask. letter.IsTogether address.now message.items count ask) }
 {
     let shown = Vec::from_slice(alloc, address)?;
@@ -123,16 +136,18 @@ fn together(alloc: Global, address: &[u8], message: Vec<u8>, count: usize) -> Re
 
 /// What asks for these devices, by one datagram.
 pub(crate) fn ask_of_devices(alloc: Global, entries: &[DeviceEntry]) -> Result<Ask, AskFault>
-    ensures { IfOk result (λ ask. letter.AsksForDevices entries.now ask) }
+    ensures asks { IfOk result (λ ask. letter.AsksForDevices entries.now ask) }
+    ensures unwritable { IsErrOf result Unwritable → letter.AreTooManyDevices entries.now }
 {
     let message = bundle_of_devices(alloc, entries)?;
-    together(alloc, b"/show/device", message, entries.len())
+    Ok(together(alloc, b"/show/device", message, entries.len())?)
 }
 
 /// What asks for these cues, by one datagram.
 pub(crate) fn ask_of_cues(alloc: Global, entries: &[CueEntry]) -> Result<Ask, AskFault>
-    ensures { IfOk result (λ ask. letter.AsksForCues entries.now ask) }
+    ensures asks { IfOk result (λ ask. letter.AsksForCues entries.now ask) }
+    ensures unwritable { IsErrOf result Unwritable → letter.AreTooManyCues entries.now }
 {
     let message = bundle_of_cues(alloc, entries)?;
-    together(alloc, b"/show/mixed", message, entries.len())
+    Ok(together(alloc, b"/show/mixed", message, entries.len())?)
 }

@@ -1,7 +1,9 @@
 //! A load as a machine.
-ghost use Rattle.std.specs.Prelude.{◌≡◌, ◌++◌, ◌∷◌, [], IfOk, OnOk, OnErr, Some, None, slice_get};
+ghost use Rattle.std.specs.Prelude.{◌≡◌, ◌++◌, ◌∷◌, [], IfOk, IsErrOf, OnOk, OnErr, Some, None, slice_get};
+ghost use Rattle.cue_desk.specs.Loading.{message_of};
+ghost use Rattle.cue_desk.specs.declared.asking.AskFault.TheVariants.{Unwritable};
 ghost use Rattle.cue_machine.specs.Hearing.{heard_as};
-ghost use Rattle.cue_load_machine.specs.Letters.{IsAsking};
+ghost use Rattle.cue_load_machine.specs.Letters.{CannotBeSaid, IsAsking};
 ghost use Rattle.cue_load_machine.specs.Lives.{IsNew};
 ghost use Rattle.cue_load_machine.specs.Stages.{end_of};
 ghost use Rattle.cue_load_machine.specs.Steps as step;
@@ -82,10 +84,12 @@ impl LoadMachine {
         })
     }
 
-    /// The machine that asks one thing of the controller at this port, and changes nothing.
+    /// The machine that asks one thing of the controller at this port, and changes nothing. `Unwritable` if it cannot be
+    /// asked.
     #[tactic(auto, using(crate::proofs::PlanLemmas::is_asking))]
     pub fn asking(alloc: Global, port: u16, asked: &Asked<'_>) -> Result<LoadMachine, AskFault>
-        ensures { IfOk result (λ m. IsAsking port asked.now m) }
+        ensures asks { IfOk result (λ m. IsAsking port asked.now m) }
+        ensures unwritable { IsErrOf result Unwritable → CannotBeSaid (message_of asked.now) }
     {
         let asks = asks_of(alloc, asked)?;
         Ok(LoadMachine::of(alloc, port, Manner::Adds, None, asks)?)

@@ -1,9 +1,12 @@
 //! A load that puts a show file in the place of what a store has: the plan, as a machine.
-ghost use Rattle.std.specs.Prelude.{◌≡◌, IfOk, IfSome, OnOk, true, false};
+ghost use Rattle.std.specs.Prelude.{◌≡◌, IfOk, IfSome, IsErrOf, IsTrue, OnOk, is_some, true, false};
+ghost use Rattle.cue_desk.specs.declared.asking.AskFault.TheVariants.{Unwritable};
+ghost use Rattle.cue_loading.specs.Loaded.{is_loaded};
 ghost use Rattle.cue_loading.specs.Steps.{goes_on};
-ghost use Rattle.cue_load_machine.specs.Plans.{IsMachineOf, IsPlanned, PushesAsks, copy_for, is_exact, is_open};
-ghost use Rattle.cue_load_machine.specs.Plans.{removes_some, rests, subject_at};
-ghost use Rattle.cue_load_machine.specs.Letters.{removes, subject_of};
+ghost use Rattle.cue_load_machine.specs.Addings.{AnyOf};
+ghost use Rattle.cue_load_machine.specs.Plans.{IsMachineOf, IsPlanned, IsUnaskablePlan, PushesAsks, copy_for, is_exact};
+ghost use Rattle.cue_load_machine.specs.Plans.{is_open, removes_some, rests, subject_at};
+ghost use Rattle.cue_load_machine.specs.Letters.{IsUnaskableStep, removes, subject_of};
 
 use crate::asks::{Ask, push_ask};
 use crate::letters::ask_of_step;
@@ -110,7 +113,8 @@ fn copy_for(copied: Copied, steps: &[Step]) -> Option<Vec<u8>>
 // Puts what asks each of these steps after the others.
 #[tactic(auto, using(crate::proofs::PlanLemmas::pushed_none, crate::proofs::PlanLemmas::pushed_more))]
 fn push_asks(alloc: Global, asks: &mut Vec<Ask>, steps: &[Step]) -> Result<(), AskFault>
-    ensures { OnOk result (PushesAsks asks.old.items steps.now asks.new.items) }
+    ensures pushes { OnOk result (PushesAsks asks.old.items steps.now asks.new.items) }
+    ensures unwritable { IsErrOf result Unwritable → AnyOf IsUnaskableStep steps.now }
 {
     match steps {
         [] => Ok(()),
@@ -141,7 +145,8 @@ fn machine_of(
     copied: Copied,
     steps: &[Step],
 ) -> Result<LoadMachine, AskFault>
-    ensures { IfOk result (λ m. IsMachineOf port manner copied steps.now m) }
+    ensures machine { IfOk result (λ m. IsMachineOf port manner copied steps.now m) }
+    ensures unwritable { IsErrOf result Unwritable → AnyOf IsUnaskableStep steps.now }
 {
     let mut asks = Vec::new(alloc);
     push_asks(alloc, &mut asks, steps)?;
@@ -150,8 +155,8 @@ fn machine_of(
 }
 
 /// The plan that puts the file in the place of what differs from it in a store, with the machine that carries it out
-/// once the copy is written, for a load that may take something away; none if the stack has no room. It is called only
-/// while nothing is live: so many attempts were when the store was read.
+/// once the copy is written, for a load that may take something away; none if the stack has no room. `Unwritable` if one
+/// of its steps cannot be asked. It is called only while nothing is live: so many attempts were when the store was read.
 pub fn plan_load(
     alloc: Global,
     port: u16,
@@ -163,8 +168,11 @@ pub fn plan_load(
 ) -> Result<Option<Planned>, AskFault>
     requires at_rest { rests live ≡ true }
     requires takes { goes_on manner false ≡ false }
-    ensures { IfOk result (λ some. IfSome some (λ p.
+    ensures planned { IfOk result (λ some. IfSome some (λ p.
         IsPlanned port manner file.now stored.now copied p)) }
+    ensures loaded { IsTrue (is_loaded (is_exact manner) file.now stored.now stored.now)
+        → IfOk result (λ some. IsTrue (is_some some)) }
+    ensures unwritable { IsErrOf result Unwritable → IsUnaskablePlan manner file.now stored.now }
 {
     match plan(alloc, is_exact(manner), file, stored)? {
         Some(steps) => {

@@ -1,4 +1,4 @@
--- A GO is said at most three times, and it is said again.
+-- A GO is said at most four times, and it is said again.
 use Rattle.std.proofs.Common.{◌≡◌, ℕ, ◌+◌, ◌-◌, ◌≤◌, ◌==◌, true, cond, List, [], ◌∷◌}
 use Rattle.std.proofs.Common.{◌++◌, Option, Some, None, refl, sym, ap, ◌∙◌, subst, arith}
 use Rattle.std.specs.Prelude.{count_by, is_none}
@@ -17,7 +17,7 @@ use Rattle.cue_relay_machine.specs.declared.copies.Waiting.{Waiting}
 use Rattle.cue_relay_machine.specs.declared.machine.RelayMachine.{RelayMachine}
 use Rattle.cue_relay_machine.specs.Copied.{copied, is_by, is_quiet, order_at, order_going, order_of}
 use Rattle.cue_relay_machine.specs.Copies.{wait_at}
-use Rattle.cue_relay_machine.specs.Laws.{SaysThrice}
+use Rattle.cue_relay_machine.specs.Laws.{SaysFourTimes}
 use Rattle.cue_relay_machine.specs.Lives.{relay_machine}
 use Rattle.cue_relay_machine.specs.Places.{opening_at, relay_address}
 use Rattle.cue_relay_machine.specs.Steps.{came, waiting_after}
@@ -47,7 +47,7 @@ datagram_stays r meters t os at now from bytes (Some g) route a e quiet =
     ∙ (sym (came_order r route t now at from bytes a) ∙ quiet) in
     taken_quiet os route (opening_at at).route now g bytes none
 
--- ---- at most three times
+-- ---- at most four times
 
 -- a quiet turn takes from what waits what it sends
 turn_less : (r : Relay) (meters : List (List ℕ)) (t : Turn) (os : List (Option Waiting)) (i : Input) (bytes : List ℕ)
@@ -105,8 +105,8 @@ parted m (t ∷ ts) after m_then h =
       relay = more.relay ∙ (turn_hands m t h.0 h.1).relay;
     }
 
-pub says-thrice : SaysThrice
-says-thrice m before t since m_then route h quiet =
+pub says-four-times : SaysFourTimes
+says-four-times m before t since m_then route h quiet =
     let at = parted m before (t ∷ since) m_then h.turns in
     let one = turn_hands at.mid t at.rest.0 at.rest.1 in
     let less = turns_less at.rest.0 since m_then route at.rest.2

@@ -24,7 +24,7 @@ use Rattle.cue_relay.specs.Relayed.{Sending, goes_on, handed_on, sent_by, way_an
 use Rattle.cue_relay.specs.Relaying.{across}
 use Rattle.cue_relay.proofs.WayLemmas.{goes}
 use Rattle.cue_relay_machine.specs.declared.copies.Said.{Said}
-use Rattle.cue_relay_machine.specs.declared.copies.Said.TheVariants.{Once, Twice}
+use Rattle.cue_relay_machine.specs.declared.copies.Said.TheVariants.{Once, Twice, Thrice}
 use Rattle.cue_relay_machine.specs.declared.copies.TheConstants.{GO_BYTES}
 use Rattle.cue_relay_machine.specs.declared.copies.Waiting.{Waiting}
 use Rattle.cue_relay_machine.specs.declared.machine.RelayMachine.{RelayMachine}
@@ -45,6 +45,7 @@ use Rattle.cue_relay_machine.proofs.WaitLemmas.{taken_other, taken_same, woken_a
 abbrev pub times : Said → ℕ
 times Once = 1
 times Twice = 2
+times Thrice = 3
 
 -- What waits at a route was handed on in one of the turns before, the latest first. It was a GO, no other order came
 -- since, and as many copies of it were sent as it says.
@@ -106,6 +107,10 @@ more_said w w_then now Once e said k =
     let same : record w { said = Twice } ≡ w_then = same_Some (record w { said = Twice }) w_then (sym made ∙ k) in
     subst (Woken w now) same (record { came = refl; to = refl; bytes = refl; more = rw (said, e) refl })
 more_said w w_then now Twice e said k =
+    let made : once_more w ≡ Some (record w { said = Thrice }) = rw e refl in
+    let same : record w { said = Thrice } ≡ w_then = same_Some (record w { said = Thrice }) w_then (sym made ∙ k) in
+    subst (Woken w now) same (record { came = refl; to = refl; bytes = refl; more = rw (said, e) refl })
+more_said w w_then now Thrice e said k =
     let none : once_more w ≡ None = rw e refl in
     absurd (none-some w_then (sym none ∙ k))
 
@@ -314,9 +319,10 @@ turn_keeps r meters t past os input.Wake bytes a sent copies h = λ route w k.
     wake_keeps r t past os route (wait_at os route) w (ap (order_at r route) a) copies h refl
     (sym (woken_at os route t.heard.now) ∙ k)
 
-times_at_most : (x : Said) → times x ≤ 2
+times_at_most : (x : Said) → times x ≤ 3
 times_at_most Once = omega arith
 times_at_most Twice = omega arith
+times_at_most Thrice = omega arith
 
 -- a copy that is sent is one of what waits
 one_copy : (r : Relay) (past : List Turn) (os : List (Option Waiting)) (now nth : ℕ) (w : Waiting)

@@ -32,7 +32,7 @@ use Rattle.cue_relay.specs.Relayed.{Sending, goes_on, handed_on, sent_by, way_an
 use Rattle.cue_relay.proofs.MessageLemmas.{order_in-for}
 use Rattle.cue_relay.proofs.WayLemmas.{goes}
 use Rattle.cue_relay_machine.specs.declared.copies.Said.{Said}
-use Rattle.cue_relay_machine.specs.declared.copies.Said.TheVariants.{Once, Twice}
+use Rattle.cue_relay_machine.specs.declared.copies.Said.TheVariants.{Once, Twice, Thrice}
 use Rattle.cue_relay_machine.specs.declared.copies.TheConstants.{GO_BYTES, LAST_COPY}
 use Rattle.cue_relay_machine.specs.declared.copies.Waiting.{Waiting}
 use Rattle.cue_relay_machine.specs.declared.machine.RelayMachine.{RelayMachine}
@@ -207,13 +207,14 @@ not_late w now first e after soon =
     (le-ltb LAST_COPY (now - w.came) (omega (arith, e, soon, after)))
 
 -- a wake that is not late says a copy, or leaves it
-woken_still : (w : Waiting) (now : ℕ) → is_late w now ≡ false → said_count (Some w) now + times w.said ≤ 2
+woken_still : (w : Waiting) (now : ℕ) → is_late w now ≡ false → said_count (Some w) now + times w.said ≤ 3
     → (w_then : Waiting) × (after_wake now (Some w) ≡ Some w_then)
 woken_still w now late few = by (is_said w now) refl
   where
     once : (x : Said) → w.said ≡ x → is_said w now ≡ true → (w_then : Waiting) × (once_more w ≡ Some w_then)
     once Once e k = (record w { said = Twice }, rw e refl)
-    once Twice e k =
+    once Twice e k = (record w { said = Thrice }, rw e refl)
+    once Thrice e k =
         let one : said_count (Some w) now ≡ 1 = ap (λ (b : Bool). cond b 1 0) k in
         absurd (omega (arith, few, one, ap times e))
 
@@ -235,7 +236,7 @@ turn_still : (r : Relay) (meters : List (List ℕ)) (t : Turn) (os : List (Optio
     (s : Sending) (first said : ℕ)
     → answer_of t ≡ answer_as t.heard.now i bytes → copies_at t ≡ copies_of i os t.heard.now
     → order_at r s.way.out.route (answer_of t) ≡ None → first ≤ t.heard.now → t.heard.now ≤ first + LAST_COPY
-    → count_by (is_by s.way.out.route) (copies_at t) + said < 2 → Still os s first said
+    → count_by (is_by s.way.out.route) (copies_at t) + said < 3 → Still os s first said
     → Still (waits_of r meters t.heard.now i bytes os) s first (count_by (is_by s.way.out.route) (copies_at t) + said)
 turn_still r meters t os (input.Datagram at from) bytes s first said a copies quiet after soon few h = record {
   w = h.w;
@@ -270,7 +271,7 @@ turn_still r meters t os input.Wake bytes s first said a copies quiet after soon
 
 turns_still : (m : RelayMachine) (ts : List Turn) (m_then : RelayMachine) (s : Sending) (first said : ℕ)
     → AreTurns relay_machine m ts m_then → list_all (is_quiet m.relay s.way.out.route) ts ≡ true
-    → list_all (is_between first (first + LAST_COPY)) ts ≡ true → copied s.way.out.route ts + said < 2
+    → list_all (is_between first (first + LAST_COPY)) ts ≡ true → copied s.way.out.route ts + said < 3
     → Still m.waiting.items s first said
     → Still m_then.waiting.items s first (copied s.way.out.route ts + said)
 turns_still m [] m_then s first said h quiet between few k =
@@ -299,6 +300,7 @@ turns_still m (t ∷ ts) m_then s first said h quiet between few k =
 pause_of : (x : Said) (said : ℕ) → times x ≡ said + 1 → pause x ≡ copy_pause said
 pause_of Once said e = let none : said ≡ 0 = omega (arith, e) in rw none refl
 pause_of Twice said e = let one : said ≡ 1 = omega (arith, e) in rw one refl
+pause_of Thrice said e = let two : said ≡ 2 = omega (arith, e) in rw two refl
 
 wake_says : (t : Turn) (os : List (Option Waiting)) (i : Input) (s : Sending) (first said : ℕ)
     → i ≡ input.Wake → copies_at t ≡ copies_of i os t.heard.now → Still os s first said → first ≤ t.heard.now

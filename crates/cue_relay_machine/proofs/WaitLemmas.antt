@@ -23,7 +23,7 @@ use Rattle.cue_relay.specs.Rates.{admits, admits_at}
 use Rattle.cue_relay.specs.Relayed.{comes, goes_on, way_and_message}
 use Rattle.cue_relay.proofs.WayLemmas.{goes}
 use Rattle.cue_relay_machine.specs.declared.copies.Said.{Said}
-use Rattle.cue_relay_machine.specs.declared.copies.Said.TheVariants.{Once, Twice}
+use Rattle.cue_relay_machine.specs.declared.copies.Said.TheVariants.{Once, Twice, Thrice}
 use Rattle.cue_relay_machine.specs.declared.copies.TheConstants.{LAST_COPY}
 use Rattle.cue_relay_machine.specs.declared.copies.Waiting.{Waiting}
 use Rattle.cue_relay_machine.specs.Copied.{order_going, order_of}
@@ -142,25 +142,28 @@ said_time w now e =
 -- ---- how many are left
 
 abbrev pub left_of : Said → ℕ
-left_of Once = 2
-left_of Twice = 1
+left_of Once = 3
+left_of Twice = 2
+left_of Thrice = 1
 
 -- how many copies may still be said of what waits
 abbrev pub left : Option Waiting → ℕ
 left None = 0
 left (Some w) = left_of w.said
 
-pub left_at_most : (o : Option Waiting) → left o ≤ 2
+pub left_at_most : (o : Option Waiting) → left o ≤ 3
 left_at_most None = omega arith
 left_at_most (Some w) = by w.said
   where
-    by : (x : Said) → left_of x ≤ 2
+    by : (x : Said) → left_of x ≤ 3
     by Once = omega arith
     by Twice = omega arith
+    by Thrice = omega arith
 
 once_less : (w : Waiting) (x : Said) → w.said ≡ x → left (once_more w) + 1 ≡ left_of x
 once_less w Once e = rw e refl
 once_less w Twice e = rw e refl
+once_less w Thrice e = rw e refl
 
 -- a wake takes from it what is said
 pub woken_less : (o : Option Waiting) (now : ℕ) → said_count o now + left (after_wake now o) ≤ left o

@@ -47,7 +47,7 @@ copied route [] = 0
 copied route (t ∷ ts) = count_by (is_by route) (copies_at t) + copied route ts
 
 -- A datagram that is sent now is a copy, given the turns before, the latest first: it was handed on as it came, in one
--- of them, and was a GO. Since then no other order came to its device, so none of a later attempt; fewer than two
+-- of them, and was a GO. Since then no other order came to its device, so none of a later attempt; fewer than three
 -- copies were said by its route; and no more time has passed than the last copy has.
 pub record IsCopy (r : Relay) (past : List Turn) (now : ℕ) (s : Sending) : Type 0 where
   pub since : List Turn
@@ -57,7 +57,7 @@ pub record IsCopy (r : Relay) (past : List Turn) (now : ℕ) (s : Sending) : Typ
   pub handed : handed_at first ≡ s ∷ []
   pub is_go : order_at r s.way.out.route (answer_of first) ≡ Some Go
   pub no_order : list_all (is_quiet r s.way.out.route) since ≡ true
-  pub few : copied s.way.out.route since < 2
+  pub few : copied s.way.out.route since < 3
   pub after : first.heard.now ≤ now
   pub soon : now ≤ first.heard.now + LAST_COPY
 

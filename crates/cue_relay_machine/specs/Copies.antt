@@ -1,6 +1,7 @@
--- A GO is said three times: at once, and twice more soon after, as long as no other order came to the same device.
+-- A GO is said four times: at once, and three times more soon after, as long as no other order came to the same device.
 use Rattle.std.specs.Prelude.{ℕ, ◌+◌, ◌*◌, ◌-◌, min, Bool, not, ◌&&◌, ◌||◌, nat_lt, nat_le}
-use Rattle.std.specs.Prelude.{if◌then◌else◌, List, [], ◌∷◌, ◌++◌, length, Option, Some, None, get_or, slice_set}
+use Rattle.std.specs.Prelude.{if◌then◌else◌, List, [], ◌∷◌, ◌++◌, length, Option, Some, None, option_map, get_or}
+use Rattle.std.specs.Prelude.{slice_set}
 use Rattle.cue_machine.specs.declared.address.Address as machine
 use Rattle.cue_machine.specs.declared.post.Output.TheVariants as output
 use Rattle.cue_machine.specs.Posting.{Given, given_as}
@@ -10,8 +11,9 @@ use Rattle.cue_relay.specs.declared.messages.Message.TheVariants as says
 use Rattle.cue_relay.specs.declared.status.Ordered.{Ordered}
 use Rattle.cue_relay.specs.declared.status.Ordered.TheVariants.{Standby, Go, Cancel}
 use Rattle.cue_relay_machine.specs.declared.copies.Said.{Said}
-use Rattle.cue_relay_machine.specs.declared.copies.Said.TheVariants.{Once, Twice}
-use Rattle.cue_relay_machine.specs.declared.copies.TheConstants.{FIRST_COPY, GO_BYTES, LAST_COPY, SECOND_COPY}
+use Rattle.cue_relay_machine.specs.declared.copies.Said.TheVariants.{Once, Twice, Thrice}
+use Rattle.cue_relay_machine.specs.declared.copies.TheConstants.{FIRST_COPY, SECOND_COPY, THIRD_COPY}
+use Rattle.cue_relay_machine.specs.declared.copies.TheConstants.{GO_BYTES, LAST_COPY}
 use Rattle.cue_relay_machine.specs.declared.copies.Waiting.{Waiting}
 use Rattle.cue_relay_machine.specs.Books.{highest}
 use Rattle.cue_relay_machine.specs.Places.{machine_address}
@@ -22,6 +24,7 @@ use Rattle.cue_relay_machine.specs.Places.{machine_address}
 abbrev pub pause : Said → ℕ
 pause Once = FIRST_COPY
 pause Twice = SECOND_COPY
+pause Thrice = THIRD_COPY
 
 -- its time is over, or the clock was put back before it
 abbrev pub is_late : Waiting → ℕ → Bool
@@ -31,13 +34,15 @@ is_late w now = nat_lt now w.came || nat_lt LAST_COPY (now - w.came)
 abbrev pub is_said : Waiting → ℕ → Bool
 is_said w now = not (is_late w now) && nat_le (pause w.said) (now - w.came)
 
+-- how often it was said once a copy was said, if another one is to follow
+abbrev pub said_once_more : Said → Option Said
+said_once_more Once = Some Twice
+said_once_more Twice = Some Thrice
+said_once_more Thrice = None
+
 -- what is still to be said of it, once a copy was said
 abbrev pub once_more : Waiting → Option Waiting
-once_more w = by w.said
-  where
-    by : Said → Option Waiting
-    by Once = Some (record w { said = Twice })
-    by Twice = None
+once_more w = option_map (λ more. record w { said = more }) (said_once_more w.said)
 
 -- when its next copy is due, or the last moment that there is
 abbrev pub due : Waiting → ℕ

@@ -23,7 +23,7 @@ use Rattle.cue_relay.specs.Claims.{IsClaimOf, no_claims}
 use Rattle.cue_relay.specs.declared.claims.Claim.{Claim}
 use Rattle.cue_relay_machine.specs.Told.{claims_of, told_last}
 use Rattle.cue_relay_machine.specs.declared.machine.RelayMachine.{RelayMachine}
-use Rattle.cue_relay_machine.specs.declared.copies.TheConstants.{FIRST_COPY, LAST_COPY, SECOND_COPY}
+use Rattle.cue_relay_machine.specs.declared.copies.TheConstants.{FIRST_COPY, LAST_COPY, SECOND_COPY, THIRD_COPY}
 use Rattle.cue_relay_machine.specs.Copied.{OnlyCopies, copied, is_quiet, order_at}
 use Rattle.cue_relay_machine.specs.Lives.{IsNew, relay_machine}
 use Rattle.cue_relay_machine.specs.Steps.{came, state_of}
@@ -87,22 +87,22 @@ CutIsTheSame size =
 
 -- ---- copies
 
--- what is sent at a wake is a copy of a GO that came a fiftieth of a second ago or less, and after which no other order
--- came to that device
+-- what is sent at a wake is a copy of a GO that came 40 milliseconds ago or less, and after which no other order came
+-- to that device
 abbrev pub CopiesOnlyGoes : Type 0
 CopiesOnlyGoes =
     (m : RelayMachine) (ts : List Turn) (m_then : RelayMachine) → HadTurns m ts m_then → OnlyCopies m.relay [] ts
 
--- after an order that came, and until the next one to that device, at most two copies are sent to it
-abbrev pub SaysThrice : Type 0
-SaysThrice =
+-- after an order that came, and until the next one to that device, at most three copies are sent to it
+abbrev pub SaysFourTimes : Type 0
+SaysFourTimes =
     (m : RelayMachine) (before : List Turn) (t : Turn) (since : List Turn) (m_then : RelayMachine) (route : ℕ)
     → HadTurns m (before ++ t ∷ since) m_then → list_all (is_quiet m.relay route) since ≡ true
-    → copied route since ≤ 2
+    → copied route since ≤ 3
 
 -- the time from a GO to its copy, once so many were said
 abbrev pub copy_pause : ℕ → ℕ
-copy_pause said = if said == 0 then FIRST_COPY else SECOND_COPY
+copy_pause said = if said == 0 then FIRST_COPY else if said == 1 then SECOND_COPY else THIRD_COPY
 
 -- these turns were between the two moments
 abbrev pub is_between : (first last : ℕ) → Turn → Bool
@@ -118,7 +118,7 @@ SaysAgain =
     → order_at m.relay s.way.out.route (answer_of first) ≡ Some Go
     → list_all (is_quiet m.relay s.way.out.route) since ≡ true
     → list_all (is_between first.heard.now (first.heard.now + LAST_COPY)) (since ++ t ∷ []) ≡ true
-    → copied s.way.out.route since < 2
+    → copied s.way.out.route since < 3
     → t.heard.input ≡ input.Wake
     → first.heard.now + copy_pause (copied s.way.out.route since) ≤ t.heard.now
     → Contains (copies_at t) s

@@ -1,4 +1,4 @@
-//! A GO is said three times: at once, and twice more within a fiftieth of a second.
+//! A GO is said four times: at once, twice more within a fiftieth of a second, and once after it.
 ghost use Rattle.std.specs.Prelude.{◌≡◌, ◌++◌, OnOk, if◌then◌else◌, map};
 ghost use Rattle.cue_relay_machine.specs.Copies as copies;
 
@@ -15,8 +15,11 @@ pub const FIRST_COPY: u64 = 7;
 /// The time from a GO to its second copy, in milliseconds.
 pub const SECOND_COPY: u64 = 14;
 
+/// The time from a GO to its third copy, in milliseconds.
+pub const THIRD_COPY: u64 = 28;
+
 /// How long after it came a GO may be said at the latest, in milliseconds: what is late then is not said any more.
-pub const LAST_COPY: u64 = 20;
+pub const LAST_COPY: u64 = 40;
 
 /// The bytes of a GO.
 pub const GO_BYTES: usize = 24;
@@ -26,6 +29,7 @@ pub const GO_BYTES: usize = 24;
 pub enum Said {
     Once,
     Twice,
+    Thrice,
 }
 
 /// A GO of which a copy is still to be said.
@@ -47,6 +51,18 @@ impl Said {
         match self {
             Said::Once => FIRST_COPY,
             Said::Twice => SECOND_COPY,
+            Said::Thrice => THIRD_COPY,
+        }
+    }
+
+    // How often it was said once a copy was said, if another one is to follow.
+    fn once_more(self) -> Option<Said>
+        ensures { result ≡ copies.said_once_more self }
+    {
+        match self {
+            Said::Once => Some(Said::Twice),
+            Said::Twice => Some(Said::Thrice),
+            Said::Thrice => None,
         }
     }
 }
@@ -70,15 +86,13 @@ impl Waiting {
     fn once_more(&self) -> Option<Waiting>
         ensures { result ≡ copies.once_more self.now }
     {
-        match self.said {
-            Said::Once => Some(Waiting {
-                came: self.came,
-                said: Said::Twice,
-                to: self.to,
-                bytes: self.bytes,
-            }),
-            Said::Twice => None,
-        }
+        let said = self.said.once_more()?;
+        Some(Waiting {
+            came: self.came,
+            said,
+            to: self.to,
+            bytes: self.bytes,
+        })
     }
 
     // When its next copy is due, or the last moment that there is.

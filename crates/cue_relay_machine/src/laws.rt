@@ -3,9 +3,9 @@ ghost use Rattle.std.specs.Prelude.{◌≡◌, ◌<◌};
 ghost use Rattle.cue_osc.specs.declared.limits.TheConstants.{MAX_LEN};
 ghost use Rattle.cue_relay_machine.specs.Laws.{CopiesOnlyGoes, CountsAll, CutIsTheSame, HandsAtARate, HandsOn};
 ghost use Rattle.cue_relay_machine.specs.Laws.{HandsNoClaim, HandsOnlyAnswers, HandsOnlyOrders, KeepsClaims};
-ghost use Rattle.cue_relay_machine.specs.Laws.{SaysAgain, SaysThrice};
+ghost use Rattle.cue_relay_machine.specs.Laws.{SaysAgain, SaysFourTimes};
 ghost use Rattle.cue_relay_machine.specs.declared.books.TheConstants.{DROPPED_PAUSE, TICK};
-ghost use Rattle.cue_relay_machine.specs.declared.copies.TheConstants.{FIRST_COPY, LAST_COPY, SECOND_COPY};
+ghost use Rattle.cue_relay_machine.specs.declared.copies.TheConstants.{FIRST_COPY, LAST_COPY, SECOND_COPY, THIRD_COPY};
 ghost use Rattle.cue_relay_machine.specs.declared.living.TheConstants.{MAX_RECEIVED};
 
 /// Of all that came, what was handed on as it came is what the definition of the relay makes of it: each datagram that
@@ -26,21 +26,21 @@ pub fn hands_only_orders()
     ensures { HandsOnlyOrders }
 {}
 
-/// What is sent at a wake is a copy of a GO: the same bytes, to the same device, by the same socket, within 20
+/// What is sent at a wake is a copy of a GO: the same bytes, to the same device, by the same socket, within 40
 /// milliseconds. Since that GO came no other order did to that device, so none of a later attempt is overtaken; and
-/// fewer than two copies of it were sent.
+/// fewer than three copies of it were sent.
 pub fn copies_only_goes()
     ensures { CopiesOnlyGoes }
 {}
 
-/// A GO is said three times at most for each time that it came: between it and the next order to its device at most two
+/// A GO is said four times at most for each time that it came: between it and the next order to its device at most three
 /// copies are sent.
-pub fn says_thrice()
-    ensures { SaysThrice }
+pub fn says_four_times()
+    ensures { SaysFourTimes }
 {}
 
-/// A GO is said again: at a wake at which its next copy is due, 7 milliseconds after it came and then 14, and not later
-/// than 20, if no other order to its device came since.
+/// A GO is said again: at a wake at which its next copy is due, 7 milliseconds after it came, then 14, then 28, and not
+/// later than 40, if no other order to its device came since.
 pub fn says_again()
     ensures { SaysAgain }
 {}
@@ -75,7 +75,8 @@ pub fn hands_no_claim()
 
 /// A status goes out each 100 milliseconds, and at most each 10,000 it is said how many were dropped. At most 4,100
 /// bytes of a datagram are read: more than the longest one has, so that a longer one is seen to be so. The copies of a
-/// GO are due 7 and 14 milliseconds after it, and are not said any more after 20.
+/// GO are due 7, 14 and 28 milliseconds after it, so that it is said three times in 20 milliseconds; none is said after
+/// 40.
 pub fn limits()
     ensures tick { TICK ≡ 100 }
     ensures dropped { DROPPED_PAUSE ≡ 10000 }
@@ -83,5 +84,6 @@ pub fn limits()
     ensures longer { MAX_LEN < MAX_RECEIVED }
     ensures first_copy { FIRST_COPY ≡ 7 }
     ensures second_copy { SECOND_COPY ≡ 14 }
-    ensures last_copy { LAST_COPY ≡ 20 }
+    ensures third_copy { THIRD_COPY ≡ 28 }
+    ensures last_copy { LAST_COPY ≡ 40 }
 {}

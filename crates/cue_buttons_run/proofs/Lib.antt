@@ -1,5 +1,4 @@
-pub mod ByteLemmas
+pub mod PlayingLemmas
 pub mod PressLemmas
-pub mod ReasonLemmas
 pub mod StruckLemmas
 pub mod TryLemmas

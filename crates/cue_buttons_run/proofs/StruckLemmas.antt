@@ -1,13 +1,13 @@
 -- For what a panel lets the desk hear a press.
-use Rattle.std.proofs.Common.{◌≡◌, ◌∙◌, ◌⊎◌, refl, sym, ap, subst, inl, inr, ℕ, Bool, true, false, Option, None, Some}
+use Rattle.std.proofs.Common.{◌≡◌, ◌∙◌, refl, sym, ap, subst, inl, inr, ℕ, Bool, true, false, Option, None, Some}
 use Rattle.std.proofs.Common.{List, [], ◌∷◌}
 use Rattle.std.proofs.lemmas.Option.{none-some}
-use Rattle.cue_desk_run.specs.Working.{HearsFor, OnlyLooks, Stays}
-use Rattle.cue_desk_run.proofs.WorkLemmas.{for_if, for_looks, for_none, for_stays, for_then}
+use Rattle.cue_desk_run.specs.Working.{HearsFor, Stays}
+use Rattle.cue_desk_run.proofs.WorkLemmas.{for_if, for_looks, for_stays, for_then}
 use Rattle.cue_midi.specs.declared.heard.Heard.{Heard}
 use Rattle.cue_midi.specs.declared.heard.Heard.TheVariants as midi
 use Rattle.cue_midi.specs.declared.parser.Parser.{Parser}
-use Rattle.cue_midi.specs.Stream.{HearsAt, IsAfter, KeepsAt, heard_at}
+use Rattle.cue_midi.specs.Stream.{heard_at}
 use Rattle.cue_presses.specs.declared.address.Spoken.{Spoken}
 use Rattle.cue_presses.specs.declared.address.Spoken.TheVariants as spoken
 use Rattle.cue_presses.specs.declared.hand.Hand.{Hand}
@@ -16,18 +16,20 @@ use Rattle.cue_presses.specs.declared.hand.Struck.TheVariants as struck
 use Rattle.cue_presses.specs.declared.intent.Intent.{Intent}
 use Rattle.cue_presses.specs.declared.pressing.Press.{Press}
 use Rattle.cue_presses.specs.Address.{spoken_to}
-use Rattle.cue_presses.specs.Hand.{after, comes_of}
+use Rattle.cue_presses.specs.Hand.{after, comes_of, counted}
 use Rattle.cue_presses.specs.Keys.{intent_of}
 use Rattle.cue_station.specs.declared.station.Station.{Station}
 use Rattle.cue_view.specs.declared.button.Button.{Button}
 use Rattle.cue_view.specs.declared.button.Button.TheVariants as button
 use Rattle.cue_view.specs.declared.view.View.{View}
-use Rattle.cue_buttons_run.specs.Pressing.{AtMost, Chooses, HasHeard, HearsAll, IsOfPress, IsStruck, IsStruckAt}
-use Rattle.cue_buttons_run.specs.Pressing.{IsStruckIn, Means, MeansBy, MeansSpoken, OnlyStruck, Presses, PressesIf}
-use Rattle.cue_buttons_run.specs.Pressing.{StillHears, Strikes, StrikesBy, StrikesSpoken, StruckBy, Takes}
+use Rattle.cue_buttons_run.specs.Playing.{AllHappen, Goes, Happening, Happens, Stand, TakesIf, stand}
+use Rattle.cue_buttons_run.specs.Playing.{begins, empties, gives, looks, opens}
+use Rattle.cue_buttons_run.specs.Pressing.{AtMost, Chooses, DoesPress, HasHeard, IsOfPress, IsStruck}
+use Rattle.cue_buttons_run.specs.Pressing.{Leaves, MeansBy, Means, MeansSpoken, OnlyStruck, Presses, PressesIf}
+use Rattle.cue_buttons_run.specs.Pressing.{StillHears, Strikes, StrikesBy, StrikesSpoken, Takes}
+use Rattle.cue_buttons_run.specs.declared.player.Player.{Player}
+use Rattle.cue_buttons_run.specs.declared.player.Setting.{Setting}
 use Rattle.cue_buttons_run.specs.declared.pressing.Outcome.{Outcome}
-use Rattle.cue_buttons_run.specs.declared.panel.Setting.{Setting}
-use Rattle.cue_buttons_run.proofs.ReasonLemmas.{for_each}
 
 chooses-for : (reason : ℕ → Button → Type 0) (p : Press) (o : Option ℕ) → p.choose ≡ o → (is_heard : Bool)
     (old new : Station) (v v_then : View) → ((view : ℕ) (b : Button) → IsOfPress p v view b → reason view b)
@@ -65,125 +67,154 @@ at-most-for : (reason : ℕ → Button → Type 0) (p : Press) (old new : Statio
 at-most-for reason p old new v v_then why (inl c) = presses-for reason p c.0 old new v v_then why c.1
 at-most-for reason p old new v v_then why (inr stays) = for_stays reason old new v v_then stays
 
-strikes-for : (reason : ℕ → Button → Type 0) (s : Struck) (old new : Station) (v v_then : View)
+-- so it is pressed, or left, with memory or without
+does-press-for : (reason : ℕ → Button → Type 0) (w : Bool) (p : Press) (h h_then : Hand) (old new : Station)
+    (v v_then : View) → ((view : ℕ) (b : Button) → IsOfPress p v view b → reason view b)
+    → DoesPress w p h h_then old new v v_then → HearsFor reason old new
+does-press-for reason true p h h_then old new v v_then why c =
+    presses-for reason p c.outcome old new v v_then why c.presses
+does-press-for reason false p h h_then old new v v_then why c = at-most-for reason p old new v v_then why c
+
+leaves-for : (reason : ℕ → Button → Type 0) (w : Bool) (h h_then : Hand) (old new : Station) (v v_then : View)
+    → Leaves w h h_then old new v v_then → HearsFor reason old new
+leaves-for reason true h h_then old new v v_then c = for_stays reason old new v v_then c.1
+leaves-for reason false h h_then old new v v_then c = for_stays reason old new v v_then c
+
+strikes-for : (reason : ℕ → Button → Type 0) (w : Bool) (s : Struck) (h h_then : Hand) (old new : Station)
+    (v v_then : View)
     → ((p : Press) → s ≡ struck.Presses p → (view : ℕ) (b : Button) → IsOfPress p v view b → reason view b)
-    → Strikes s old new v v_then → HearsFor reason old new
-strikes-for reason (struck.Presses p) old new v v_then why c =
-    at-most-for reason p old new v v_then (why p refl) c
-strikes-for reason (struck.Refused w) old new v v_then why c = for_stays reason old new v v_then c
-strikes-for reason struck.Waited old new v v_then why c = for_stays reason old new v v_then c
-strikes-for reason struck.Flooded old new v v_then why c = for_stays reason old new v v_then c
-strikes-for reason struck.Tap old new v v_then why c = for_stays reason old new v v_then c
+    → Strikes w s h h_then old new v v_then → HearsFor reason old new
+strikes-for reason w (struck.Presses p) h h_then old new v v_then why c =
+    does-press-for reason w p h h_then old new v v_then (why p refl) c
+strikes-for reason w (struck.Refused r) h h_then old new v v_then why c =
+    leaves-for reason w h h_then old new v v_then c
+strikes-for reason w struck.Waited h h_then old new v v_then why c = leaves-for reason w h h_then old new v v_then c
+strikes-for reason w struck.Flooded h h_then old new v v_then why c = leaves-for reason w h h_then old new v v_then c
+strikes-for reason w struck.Tap h h_then old new v v_then why c = leaves-for reason w h h_then old new v v_then c
 
-spoken-for : (reason : ℕ → Button → Type 0) (sp : Spoken) (h : Hand) (old new : Station) (v v_then : View)
+spoken-for : (reason : ℕ → Button → Type 0) (w : Bool) (sp : Spoken) (h h_then : Hand) (old new : Station)
+    (v v_then : View)
     → ((p : Press) → MeansSpoken sp h v p → (view : ℕ) (b : Button) → IsOfPress p v view b → reason view b)
-    → StrikesSpoken sp h old new v v_then → HearsFor reason old new
-spoken-for reason (spoken.Intent i) h old new v v_then why c =
-    strikes-for reason (comes_of h v i) old new v v_then why c
-spoken-for reason spoken.Elsewhere h old new v v_then why c = for_stays reason old new v v_then c
-spoken-for reason (spoken.OtherCommand n) h old new v v_then why c = for_stays reason old new v v_then c
-spoken-for reason spoken.NoCue h old new v v_then why c = for_stays reason old new v v_then c
-spoken-for reason spoken.OtherList h old new v v_then why c = for_stays reason old new v v_then c
-spoken-for reason spoken.Unfit h old new v v_then why c = for_stays reason old new v v_then c
+    → StrikesSpoken w sp h h_then old new v v_then → HearsFor reason old new
+spoken-for reason w (spoken.Intent i) h h_then old new v v_then why c =
+    strikes-for reason w (comes_of h v i) (counted h) h_then old new v v_then why c
+spoken-for reason w spoken.Elsewhere h h_then old new v v_then why c =
+    leaves-for reason w h h_then old new v v_then c
+spoken-for reason w (spoken.OtherCommand n) h h_then old new v v_then why c =
+    leaves-for reason w (counted h) h_then old new v v_then c
+spoken-for reason w spoken.NoCue h h_then old new v v_then why c =
+    leaves-for reason w (counted h) h_then old new v v_then c
+spoken-for reason w spoken.OtherList h h_then old new v v_then why c =
+    leaves-for reason w (counted h) h_then old new v v_then c
+spoken-for reason w spoken.Unfit h h_then old new v v_then why c =
+    leaves-for reason w (counted h) h_then old new v v_then c
 
-by-for : (reason : ℕ → Button → Type 0) (o : Option Intent) (h : Hand) (old new : Station) (v v_then : View)
+by-for : (reason : ℕ → Button → Type 0) (w : Bool) (o : Option Intent) (h h_then : Hand) (old new : Station)
+    (v v_then : View)
     → ((p : Press) → MeansBy o h v p → (view : ℕ) (b : Button) → IsOfPress p v view b → reason view b)
-    → StrikesBy o h old new v v_then → HearsFor reason old new
-by-for reason (Some i) h old new v v_then why c = strikes-for reason (comes_of h v i) old new v v_then why c
-by-for reason None h old new v v_then why c = for_stays reason old new v v_then c
+    → StrikesBy w o h h_then old new v v_then → HearsFor reason old new
+by-for reason w (Some i) h h_then old new v v_then why c =
+    strikes-for reason w (comes_of h v i) (counted h) h_then old new v v_then why c
+by-for reason w None h h_then old new v v_then why c = leaves-for reason w h h_then old new v v_then c
 
 struck-why : (s : Setting) (past : List ℕ) (byte : ℕ) (h : Hand) (m : Heard) (v : View) (p : Press)
-    → heard_at past byte ≡ Some m → Means s h m v p → (view : ℕ) (b : Button) → IsOfPress p v view b
-    → IsStruckAt s past byte view b
+    → heard_at past byte ≡ Some m → Means s h m v p → (view : ℕ) (b : Button) → IsOfPress p v view b → IsStruck s view b
 struck-why s past byte h m v p spells means view b is =
-    record { message = m; spells = spells; hand = h; shown = v; press = p; means = means; is = is }
+    record {
+      past = past;
+      byte = byte;
+      struck = record { message = m; spells = spells; hand = h; shown = v; press = p; means = means; is = is };
+    }
 
 -- what one message lets the desk hear was struck
-takes-for : (s : Setting) (past : List ℕ) (byte : ℕ) (h : Hand) (m : Heard) → heard_at past byte ≡ Some m
-    → (old new : Station) (v v_then : View) → Takes s h m old new v v_then
-    → HearsFor (IsStruckAt s past byte) old new
-takes-for s past byte h (midi.NoteOn channel note velocity) spells old new v v_then c =
+takes-for : (w : Bool) (s : Setting) (past : List ℕ) (byte : ℕ) (m : Heard) → heard_at past byte ≡ Some m
+    → (h h_then : Hand) (old new : Station) (v v_then : View) → Takes w s m h h_then old new v v_then
+    → HearsFor (IsStruck s) old new
+takes-for w s past byte (midi.NoteOn channel note velocity) spells h h_then old new v v_then c =
     let m : Heard = midi.NoteOn channel note velocity in
-    by-for (IsStruckAt s past byte) (intent_of s.keys h.pedals m) (after s.keys m h) old new v v_then
+    by-for (IsStruck s) w (intent_of s.keys h.pedals m) (after s.keys m h) h_then old new v v_then
     (λ p means. struck-why s past byte h m v p spells means) c
-takes-for s past byte h (midi.Controller channel number value) spells old new v v_then c =
+takes-for w s past byte (midi.Controller channel number value) spells h h_then old new v v_then c =
     let m : Heard = midi.Controller channel number value in
-    by-for (IsStruckAt s past byte) (intent_of s.keys h.pedals m) (after s.keys m h) old new v v_then
+    by-for (IsStruck s) w (intent_of s.keys h.pedals m) (after s.keys m h) h_then old new v v_then
     (λ p means. struck-why s past byte h m v p spells means) c
-takes-for s past byte h (midi.Show show) spells old new v v_then c =
-    spoken-for (IsStruckAt s past byte) (spoken_to s.address show) h old new v v_then
+takes-for w s past byte (midi.Show show) spells h h_then old new v v_then c =
+    spoken-for (IsStruck s) w (spoken_to s.address show) h h_then old new v v_then
     (λ p means. struck-why s past byte h (midi.Show show) v p spells means) c
-takes-for s past byte h (midi.Ignored kind) spells old new v v_then c =
-    by-for (IsStruckAt s past byte) (intent_of s.keys h.pedals (midi.Ignored kind))
-    (after s.keys (midi.Ignored kind) h) old new v v_then
-    (λ p means. struck-why s past byte h (midi.Ignored kind) v p spells means) c
+takes-for w s past byte (midi.Ignored kind) spells h h_then old new v v_then c =
+    by-for (IsStruck s) w (intent_of s.keys h.pedals (midi.Ignored kind)) (after s.keys (midi.Ignored kind) h) h_then
+    old new v v_then (λ p means. struck-why s past byte h (midi.Ignored kind) v p spells means) c
 
--- ---- one byte
+takes-if-for : (w : Bool) (s : Setting) (past : List ℕ) (byte : ℕ) (o : Option Heard) → heard_at past byte ≡ o
+    → (h h_then : Hand) (old new : Station) (v v_then : View) → TakesIf w s o h h_then old new v v_then
+    → HearsFor (IsStruck s) old new
+takes-if-for w s past byte (Some m) spells h h_then old new v v_then c =
+    takes-for w s past byte m spells h h_then old new v v_then c
+takes-if-for w s past byte None spells h h_then old new v v_then c =
+    leaves-for (IsStruck s) w h h_then old new v v_then c
 
--- it finishes a message, and that is taken
-pub byte_takes : (s : Setting) (p : Parser) (byte : ℕ) (h : Hand) (m : Heard) (old new : Station) (v v_then : View)
-    → HearsAt p byte (Some m) → Takes s h m old new v v_then → StruckBy s p (byte ∷ []) old new
-byte_takes s p byte h m old new v v_then hears takes =
-    record {
-      struck = λ past is.
-          for_each (IsStruckAt s past byte) (IsStruckIn s past (byte ∷ [])) old new (λ view b why. inl why)
-          (takes-for s past byte h m (sym (hears past is)) old new v v_then takes);
-    }
+-- ---- one thing after the other
 
--- nothing is heard
-pub by_none : (s : Setting) (p : Parser) (bytes : List ℕ) (st : Station) → StruckBy s p bytes st st
-by_none s p bytes st = record { struck = λ past is. for_none _ st }
-
--- the parser has heard it
-pub hears_byte : (p p_then : Parser) (byte : ℕ) → KeepsAt p byte p_then → HearsAll p (byte ∷ []) p_then
-hears_byte p p_then byte keeps = record { hears = keeps }
-
--- ---- whatever a device gives
-
-pub still_same : (p p_then : Parser) → p_then ≡ p → StillHears p p_then
-still_same p p_then e = record { still = λ has. subst (λ (x : Parser). HasHeard x) (sym e) has }
-
--- a device was opened
-pub still_new : (p mid p_then : Parser) → IsAfter [] mid → p_then ≡ mid → StillHears p p_then
-still_new p mid p_then new e =
-    record { still = λ has. subst (λ (x : Parser). HasHeard x) (sym e) (record { past = []; after = new }) }
+still-same : (p p_then : Parser) → p_then ≡ p → StillHears p p_then
+still-same p p_then e = record { still = λ has. subst (λ (x : Parser). HasHeard x) (sym e) has }
 
 -- no press is heard
-pub struck_looks : (s s_then : Setting) (p p_then : Parser) (old new : Station) → OnlyLooks old new → s_then ≡ s
-    → p_then ≡ p → OnlyStruck s s_then p p_then old new
-struck_looks s s_then p p_then old new looks same kept =
+struck-stays : (p p_then : Player) (old new : Station) (v v_then : View) → p_then.setting ≡ p.setting
+    → StillHears p.parser p_then.parser → Stays old new v v_then → OnlyStruck p p_then old new
+struck-stays p p_then old new v v_then same still stays =
     record {
-      struck = λ has. for_looks (IsStruck s) old new looks;
-      parser = still_same p p_then kept;
-      setting = same;
-    }
-
--- nothing is heard, and a device may be opened
-pub struck_opened : (s s_then : Setting) (p p_then : Parser) (old new : Station) → new ≡ old → s_then ≡ s
-    → StillHears p p_then → OnlyStruck s s_then p p_then old new
-struck_opened s s_then p p_then old new e same still =
-    record {
-      struck = λ has. subst (λ (st : Station). HearsFor (IsStruck s) old st) (sym e) (for_none (IsStruck s) old);
+      struck = λ has. for_stays (IsStruck p.setting) old new v v_then stays;
       parser = still;
       setting = same;
     }
 
-pub struck_same : (s s_then : Setting) (p p_then : Parser) (old new : Station) → new ≡ old → s_then ≡ s
-    → p_then ≡ p → OnlyStruck s s_then p p_then old new
-struck_same s s_then p p_then old new e same kept =
-    struck_opened s s_then p p_then old new e same (still_same p p_then kept)
-
-pub struck_none : (s : Setting) (p : Parser) (st : Station) → OnlyStruck s s p p st st
-struck_none s p st = struck_same s s p p st st refl refl refl
-
--- one after the other
-pub struck_then : (s s_mid s_then : Setting) (p p_mid p_then : Parser) (old mid new : Station)
-    → OnlyStruck s s_mid p p_mid old mid → OnlyStruck s_mid s_then p_mid p_then mid new
-    → OnlyStruck s s_then p p_then old new
-struck_then s s_mid s_then p p_mid p_then old mid new a b =
+-- one thing happens
+struck-one : (h : Happening) (a b : Stand) → Happens h a b → OnlyStruck a.player b.player a.station b.station
+struck-one (opens now) a b c =
+    struck-stays a.player b.player a.station b.station a.view b.view c.0.setting
+    (record { still = λ has. record { past = []; after = c.0.parser } }) c.1
+struck-one (begins now) a b c =
+    struck-stays a.player b.player a.station b.station a.view b.view (ap (λ (x : Player). x.setting) c.0)
+    (still-same a.player.parser b.player.parser (ap (λ (x : Player). x.parser) c.0)) c.1
+struck-one empties a b c =
+    struck-stays a.player b.player a.station b.station a.view b.view (ap (λ (x : Player). x.setting) c.0)
+    (still-same a.player.parser b.player.parser (ap (λ (x : Player). x.parser) c.0)) c.1
+struck-one (gives w byte) a b c =
     record {
-      struck = λ has. for_then (IsStruck s) old mid new (a.struck has)
-          (subst (λ (x : Setting). HearsFor (IsStruck x) mid new) a.setting (b.struck (a.parser.still has)));
+      struck = λ has.
+          takes-if-for w a.player.setting has.past byte c.message (sym (c.hears has.past has.after)) a.player.hand
+          b.player.hand a.station b.station a.view b.view c.takes;
+      parser = record { still = λ has. record { past = byte ∷ has.past; after = c.keeps has.past has.after } };
+      setting = c.setting;
+    }
+struck-one looks a b c =
+    record {
+      struck = λ has. for_looks (IsStruck a.player.setting) a.station b.station c.1;
+      parser = still-same a.player.parser b.player.parser (ap (λ (x : Player). x.parser) c.0.1);
+      setting = ap (λ (x : Player). x.setting) c.0.1;
+    }
+
+-- first the one, and then the other
+struck-then : (p mid p_then : Player) (old between new : Station) → OnlyStruck p mid old between
+    → OnlyStruck mid p_then between new → OnlyStruck p p_then old new
+struck-then p mid p_then old between new a b =
+    record {
+      struck = λ has. for_then (IsStruck p.setting) old between new (a.struck has)
+          (subst (λ (x : Setting). HearsFor (IsStruck x) between new) a.setting (b.struck (a.parser.still has)));
       parser = record { still = λ has. b.parser.still (a.parser.still has) };
       setting = b.setting ∙ a.setting;
     }
+
+struck-all : (hs : List Happening) (a b : Stand) → AllHappen hs a b → OnlyStruck a.player b.player a.station b.station
+struck-all [] a b e =
+    struck-stays a.player b.player a.station b.station a.view b.view (ap (λ (x : Stand). x.player.setting) e)
+    (still-same a.player.parser b.player.parser (ap (λ (x : Stand). x.player.parser) e))
+    (ap (λ (x : Stand). x.station) e, ap (λ (x : Stand). x.view) e)
+struck-all (h ∷ more) a b all =
+    struck-then a.player all.0.player b.player a.station all.0.station b.station (struck-one h a all.0 all.1)
+    (struck-all more all.0 b all.2)
+
+-- a panel that went on so has pressed what was struck
+pub goes_struck : (w : Bool) (p p_then : Player) (old new : Station) (v v_then : View) → Goes w p p_then old new v v_then
+    → OnlyStruck p p_then old new
+goes_struck w p p_then old new v v_then g = struck-all g.happened (stand p old v) (stand p_then new v_then) g.happens

@@ -1,3 +1,4 @@
+pub mod Playing
 pub mod Pressing
 pub mod Trying
 pub mod Waiting

@@ -1,5 +1,5 @@
 -- What is pressed at a desk without a browser, and by what.
-use Rattle.std.specs.Prelude.{◌≡◌, ◌⊎◌, Bool, true, false, ℕ, List, [], ◌∷◌, Option, None, Some}
+use Rattle.std.specs.Prelude.{◌≡◌, ◌⊎◌, Bool, true, false, ℕ, List, Option, None, Some}
 use Rattle.cue_desk_run.specs.Working.{HearsFor, HearsIf, Stays}
 use Rattle.cue_midi.specs.declared.heard.Heard.{Heard}
 use Rattle.cue_midi.specs.declared.heard.Heard.TheVariants as midi
@@ -13,7 +13,7 @@ use Rattle.cue_presses.specs.declared.hand.Struck.TheVariants as struck
 use Rattle.cue_presses.specs.declared.intent.Intent.{Intent}
 use Rattle.cue_presses.specs.declared.pressing.Press.{Press}
 use Rattle.cue_presses.specs.Address.{spoken_to}
-use Rattle.cue_presses.specs.Hand.{after, comes_of}
+use Rattle.cue_presses.specs.Hand.{after, comes_of, counted, sent}
 use Rattle.cue_presses.specs.Keys.{intent_of}
 use Rattle.cue_station.specs.declared.heard.Heard.TheVariants as heard
 use Rattle.cue_station.specs.declared.station.Station.{Station}
@@ -25,7 +25,8 @@ use Rattle.cue_view.specs.declared.view.Unsent.TheVariants as unsent
 use Rattle.cue_view.specs.declared.view.View.{View}
 use Rattle.cue_buttons_run.specs.declared.pressing.Outcome.{Outcome}
 use Rattle.cue_buttons_run.specs.declared.pressing.Outcome.TheVariants as outcome
-use Rattle.cue_buttons_run.specs.declared.panel.Setting.{Setting}
+use Rattle.cue_buttons_run.specs.declared.player.Player.{Player}
+use Rattle.cue_buttons_run.specs.declared.player.Setting.{Setting}
 
 -- ---- one press
 
@@ -75,27 +76,55 @@ pub record Presses (p : Press) (r : Outcome) (old new : Station) (v v_then : Vie
 abbrev pub AtMost : Press → (old new : Station) → (v v_then : View) → Type 0
 AtMost p old new v v_then = ((r : Outcome) × Presses p r old new v v_then) ⊎ Stays old new v v_then
 
+-- ---- what a hand makes of it
+
+-- how the hand stands once this came of a press: it remembers a GO that was sent
+abbrev pub hand_after : Press → Outcome → View → Hand → Hand
+hand_after p (outcome.Sent ask) v h = sent v p.button h
+hand_after p (outcome.Unsent u) v h = h
+hand_after p outcome.Unheard v h = h
+
+-- It is pressed, and the hand knows.
+pub record IsPressed (p : Press) (h h_then : Hand) (old new : Station) (v v_then : View) : Type 0 where
+  pub outcome : Outcome
+  pub presses : Presses p outcome old new v v_then
+  pub hand : h_then ≡ hand_after p outcome v_then h
+
+-- so it is as long as there is memory; else it is pressed at most
+abbrev pub DoesPress : Bool → Press → (h h_then : Hand) → (old new : Station) → (v v_then : View) → Type 0
+DoesPress true p h h_then old new v v_then = IsPressed p h h_then old new v v_then
+DoesPress false p h h_then old new v v_then = AtMost p old new v v_then
+
+-- nothing is pressed, and as long as there is memory the hand stands so
+abbrev pub Leaves : Bool → (h h_then : Hand) → (old new : Station) → (v v_then : View) → Type 0
+Leaves true h h_then old new v v_then = (h_then ≡ h) × Stays old new v v_then
+Leaves false h h_then old new v v_then = Stays old new v v_then
+
 -- ---- what is struck
 
--- what comes of an intent is pressed at most
-abbrev pub Strikes : Struck → (old new : Station) → (v v_then : View) → Type 0
-Strikes (struck.Presses p) old new v v_then = AtMost p old new v v_then
-Strikes _ old new v v_then = Stays old new v v_then
+-- what comes of an intent is pressed
+abbrev pub Strikes : Bool → Struck → (h h_then : Hand) → (old new : Station) → (v v_then : View) → Type 0
+Strikes w (struck.Presses p) h h_then old new v v_then = DoesPress w p h h_then old new v v_then
+Strikes w _ h h_then old new v v_then = Leaves w h h_then old new v v_then
 
--- a key has its intent; what is no key has none
-abbrev pub StrikesBy : Option Intent → Hand → (old new : Station) → (v v_then : View) → Type 0
-StrikesBy (Some i) h old new v v_then = Strikes (comes_of h v i) old new v v_then
-StrikesBy None h old new v v_then = Stays old new v v_then
+-- a key has its intent, and the hand counts it; what is no key has none
+abbrev pub StrikesBy : Bool → Option Intent → (h h_then : Hand) → (old new : Station) → (v v_then : View) → Type 0
+StrikesBy w (Some i) h h_then old new v v_then = Strikes w (comes_of h v i) (counted h) h_then old new v v_then
+StrikesBy w None h h_then old new v v_then = Leaves w h h_then old new v v_then
 
--- so has a command of show control that is for this desk
-abbrev pub StrikesSpoken : Spoken → Hand → (old new : Station) → (v v_then : View) → Type 0
-StrikesSpoken (spoken.Intent i) h old new v v_then = Strikes (comes_of h v i) old new v v_then
-StrikesSpoken _ h old new v v_then = Stays old new v v_then
+-- so has a command of show control that is for this desk; one for another desk is not counted
+abbrev pub StrikesSpoken : Bool → Spoken → (h h_then : Hand) → (old new : Station) → (v v_then : View) → Type 0
+StrikesSpoken w (spoken.Intent i) h h_then old new v v_then =
+    Strikes w (comes_of h v i) (counted h) h_then old new v v_then
+StrikesSpoken w spoken.Elsewhere h h_then old new v v_then = Leaves w h h_then old new v v_then
+StrikesSpoken w _ h h_then old new v v_then = Leaves w (counted h) h_then old new v v_then
 
--- What one message of MIDI presses at most: that of the key that was struck, or of the command that was spoken.
-abbrev pub Takes : Setting → Hand → Heard → (old new : Station) → (v v_then : View) → Type 0
-Takes s h (midi.Show show) old new v v_then = StrikesSpoken (spoken_to s.address show) h old new v v_then
-Takes s h m old new v v_then = StrikesBy (intent_of s.keys h.pedals m) (after s.keys m h) old new v v_then
+-- What one message of MIDI presses: that of the key that was struck, or of the command that was spoken.
+abbrev pub Takes : Bool → Setting → Heard → (h h_then : Hand) → (old new : Station) → (v v_then : View) → Type 0
+Takes w s (midi.Show show) h h_then old new v v_then =
+    StrikesSpoken w (spoken_to s.address show) h h_then old new v v_then
+Takes w s m h h_then old new v v_then =
+    StrikesBy w (intent_of s.keys h.pedals m) (after s.keys m h) h_then old new v v_then
 
 -- ---- why a press is heard
 
@@ -138,11 +167,6 @@ pub record IsStruckAt (s : Setting) (past : List ℕ) (byte : ℕ) (view : ℕ) 
   pub means : Means s hand message shown press
   pub is : IsOfPress press shown view b
 
--- it is heard at one of these bytes, which come one after the other after those of the past
-abbrev pub IsStruckIn : Setting → (past bytes : List ℕ) → ℕ → Button → Type 0
-IsStruckIn s past [] view b = ⊥
-IsStruckIn s past (byte ∷ more) view b = IsStruckAt s past byte view b ⊎ IsStruckIn s (byte ∷ past) more view b
-
 -- it is heard at a byte that came after others
 pub record IsStruck (s : Setting) (view : ℕ) (b : Button) : Type 0 where
   pub past : List ℕ
@@ -150,19 +174,6 @@ pub record IsStruck (s : Setting) (view : ℕ) (b : Button) : Type 0 where
   pub struck : IsStruckAt s past byte view b
 
 -- ---- what is pressed while a device is heard
-
--- all bytes of a device, the newest first, once these have come after those of the past
-abbrev pub all_after : (past bytes : List ℕ) → List ℕ
-all_after past [] = past
-all_after past (byte ∷ more) = all_after (byte ∷ past) more
-
--- Whatever the device gave before: each press that the desk heard was struck at one of these bytes.
-pub record StruckBy (s : Setting) (p : Parser) (bytes : List ℕ) (old new : Station) : Type 0 where
-  pub struck : (past : List ℕ) → IsAfter past p → HearsFor (IsStruckIn s past bytes) old new
-
--- Whatever the device gave before: the parser has heard these bytes after it, each of them once and in order.
-pub record HearsAll (p : Parser) (bytes : List ℕ) (p_then : Parser) : Type 0 where
-  pub hears : (past : List ℕ) → IsAfter past p → IsAfter (all_after past bytes) p_then
 
 -- A parser has heard the bytes of a device so far.
 pub record HasHeard (p : Parser) : Type 0 where
@@ -175,7 +186,7 @@ pub record StillHears (p p_then : Parser) : Type 0 where
 
 -- Each press that the desk heard was struck at a byte of a device, after those before it, and the panel is set as
 -- before.
-pub record OnlyStruck (s s_then : Setting) (p p_then : Parser) (old new : Station) : Type 0 where
-  pub struck : HasHeard p → HearsFor (IsStruck s) old new
-  pub parser : StillHears p p_then
-  pub setting : s_then ≡ s
+pub record OnlyStruck (p p_then : Player) (old new : Station) : Type 0 where
+  pub struck : HasHeard p.parser → HearsFor (IsStruck p.setting) old new
+  pub parser : StillHears p.parser p_then.parser
+  pub setting : p_then.setting ≡ p.setting

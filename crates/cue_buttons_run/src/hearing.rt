@@ -1,6 +1,7 @@
 //! The device that is heard, and the rounds of a real desk.
-ghost use Rattle.std.specs.Prelude.{◌≡◌};
-ghost use Rattle.cue_buttons_run.specs.Pressing.{OnlyStruck, StillHears};
+ghost use Rattle.std.specs.Prelude.{◌≡◌, is_ok};
+ghost use Rattle.cue_buttons_run.specs.Playing.{Goes};
+ghost use Rattle.cue_buttons_run.specs.Pressing.{OnlyStruck};
 
 use crate::device::{Came, Device};
 use crate::panel::Panel;
@@ -50,16 +51,15 @@ enum Silence {
 
 impl<'a> Ear<'a> {
     // Opens the device, if it is due.
-    #[tactic(auto, using(crate::proofs::StruckLemmas::still_new, crate::proofs::StruckLemmas::still_same))]
+    #[tactic(auto, using(crate::proofs::PlayingLemmas::goes_opened, crate::proofs::PlayingLemmas::goes_same))]
     fn open<R: Files<File = File> + Net + Clock + AllocGlobal>(
         &mut self,
         rt: &R,
         panel: &mut Panel<'_, R>,
         now: u64,
     ) -> Result<(), AllocError>
-        ensures desk { panel.new.desk ≡ panel.old.desk }
-        ensures setting { panel.new.setting ≡ panel.old.setting }
-        ensures parser { StillHears panel.old.parser panel.new.parser }
+        ensures { Goes (is_ok result) panel.old.player panel.new.player panel.old.desk.station panel.new.desk.station
+            panel.old.desk.view panel.new.desk.view }
     {
         let path = self.path;
         match Device::open(rt, panel.registry(), path) {
@@ -79,13 +79,13 @@ impl<'a> Ear<'a> {
     }
 
     // Reads a piece of what is there, and lets the panel hear it. Answers whether there may be more.
-    #[tactic(auto, using(crate::proofs::StruckLemmas::struck_same, crate::proofs::StruckLemmas::struck_then))]
+    #[tactic(auto, using(crate::proofs::PlayingLemmas::goes_emptied, crate::proofs::PlayingLemmas::goes_given, crate::proofs::PlayingLemmas::goes_same))]
     fn hear_piece<R: Files<File = File> + Net + Clock + AllocGlobal>(
         &mut self,
         panel: &mut Panel<'_, R>,
     ) -> Result<Result<bool, Silence>, AllocError>
-        ensures { OnlyStruck panel.old.setting panel.new.setting panel.old.parser panel.new.parser
-            panel.old.desk.station panel.new.desk.station }
+        ensures { Goes (is_ok result) panel.old.player panel.new.player panel.old.desk.station panel.new.desk.station
+            panel.old.desk.view panel.new.desk.view }
     {
         let Some(device) = &mut self.device else {
             return Ok(Ok(false));
@@ -107,13 +107,13 @@ impl<'a> Ear<'a> {
     }
 
     // Hears what is there, up to so much.
-    #[tactic(auto, using(crate::proofs::StruckLemmas::struck_same, crate::proofs::StruckLemmas::struck_then))]
+    #[tactic(auto, using(crate::proofs::PlayingLemmas::goes_none, crate::proofs::PlayingLemmas::goes_then))]
     fn hear<R: Files<File = File> + Net + Clock + AllocGlobal>(
         &mut self,
         panel: &mut Panel<'_, R>,
     ) -> Result<Option<Silence>, AllocError>
-        ensures { OnlyStruck panel.old.setting panel.new.setting panel.old.parser panel.new.parser
-            panel.old.desk.station panel.new.desk.station }
+        ensures { Goes (is_ok result) panel.old.player panel.new.player panel.old.desk.station panel.new.desk.station
+            panel.old.desk.view panel.new.desk.view }
     {
         let most = if panel.is_settled() {
             PIECES
@@ -145,8 +145,7 @@ impl<'a> Ear<'a> {
         silence: &Silence,
     ) -> Result<bool, AllocError>
         ensures desk { panel.new.desk ≡ panel.old.desk }
-        ensures setting { panel.new.setting ≡ panel.old.setting }
-        ensures parser { panel.new.parser ≡ panel.old.parser }
+        ensures player { panel.new.player ≡ panel.old.player }
     {
         let path = self.path;
         self.device = None;
@@ -178,7 +177,7 @@ fn say_opening<W: Write>(alloc: Global, ear: &mut Ear<'_>, writer: &mut W) -> Re
 }
 
 // Opens the device if it is not open, and that is due.
-#[tactic(auto, using(crate::proofs::StruckLemmas::still_same))]
+#[tactic(auto, using(crate::proofs::PlayingLemmas::goes_same))]
 fn open_if_due<R: Files<File = File> + Net + Clock + AllocGlobal, W: Write>(
     rt: &R,
     ear: &mut Ear<'_>,
@@ -186,9 +185,8 @@ fn open_if_due<R: Files<File = File> + Net + Clock + AllocGlobal, W: Write>(
     now: u64,
     writer: &mut W,
 ) -> Result<(), Ending>
-    ensures desk { panel.new.desk ≡ panel.old.desk }
-    ensures setting { panel.new.setting ≡ panel.old.setting }
-    ensures parser { StillHears panel.old.parser panel.new.parser }
+    ensures { Goes (is_ok result) panel.old.player panel.new.player panel.old.desk.station panel.new.desk.station
+        panel.old.desk.view panel.new.desk.view }
 {
     if ear.device.is_none() && ear.tries.is_due(now) {
         say_opening(rt.alloc(), ear, writer)?;
@@ -198,7 +196,7 @@ fn open_if_due<R: Files<File = File> + Net + Clock + AllocGlobal, W: Write>(
 }
 
 // Opens the device if it is not open, and hears what is there. Answers whether it has ended.
-#[tactic(auto, using(crate::proofs::StruckLemmas::struck_opened, crate::proofs::StruckLemmas::struck_same, crate::proofs::StruckLemmas::struck_then))]
+#[tactic(auto, using(crate::proofs::PlayingLemmas::goes_begun, crate::proofs::PlayingLemmas::goes_same, crate::proofs::PlayingLemmas::goes_then))]
 fn listen<R: Files<File = File> + Net + Clock + AllocGlobal, W: Write>(
     rt: &R,
     ear: &mut Ear<'_>,
@@ -206,8 +204,8 @@ fn listen<R: Files<File = File> + Net + Clock + AllocGlobal, W: Write>(
     now: u64,
     writer: &mut W,
 ) -> Result<bool, Ending>
-    ensures { OnlyStruck panel.old.setting panel.new.setting panel.old.parser panel.new.parser
-        panel.old.desk.station panel.new.desk.station }
+    ensures { Goes (is_ok result) panel.old.player panel.new.player panel.old.desk.station panel.new.desk.station
+        panel.old.desk.view panel.new.desk.view }
 {
     open_if_due(rt, ear, panel, now, writer)?;
     panel.begin(now);
@@ -224,14 +222,15 @@ fn listen<R: Files<File = File> + Net + Clock + AllocGlobal, W: Write>(
 }
 
 // Hears who presses. Answers whether the device has ended.
+#[tactic(auto, using(crate::proofs::PlayingLemmas::goes_none))]
 fn hear_now<R: Files<File = File> + Net + Clock + Eprint + AllocGlobal, W: Write>(
     rt: &R,
     ear: &mut Ear<'_>,
     panel: &mut Panel<'_, R>,
     writer: &mut W,
 ) -> Result<bool, Ending>
-    ensures { OnlyStruck panel.old.setting panel.new.setting panel.old.parser panel.new.parser
-        panel.old.desk.station panel.new.desk.station }
+    ensures { Goes (is_ok result) panel.old.player panel.new.player panel.old.desk.station panel.new.desk.station
+        panel.old.desk.view panel.new.desk.view }
 {
     match panel.now() {
         Ok(now) => listen(rt, ear, panel, now, writer),
@@ -240,13 +239,13 @@ fn hear_now<R: Files<File = File> + Net + Clock + Eprint + AllocGlobal, W: Write
 }
 
 // Hears the controller and the store.
-#[tactic(auto, using(crate::proofs::StruckLemmas::struck_looks))]
+#[tactic(auto, using(crate::proofs::PlayingLemmas::goes_looked))]
 fn look<R: Files<File = File> + Net + Clock + Eprint + AllocGlobal>(
     rt: &R,
     panel: &mut Panel<'_, R>,
 ) -> Result<(), Ending>
-    ensures { OnlyStruck panel.old.setting panel.new.setting panel.old.parser panel.new.parser
-        panel.old.desk.station panel.new.desk.station }
+    ensures { Goes (is_ok result) panel.old.player panel.new.player panel.old.desk.station panel.new.desk.station
+        panel.old.desk.view panel.new.desk.view }
 {
     match panel.round() {
         Ok(()) => Ok(()),
@@ -261,8 +260,8 @@ fn tell<R: Files<File = File> + Net + Clock + Eprint + AllocGlobal, W: Write>(
     writer: &mut W,
 ) -> Result<(), Ending>
     ensures station { panel.new.desk.station ≡ panel.old.desk.station }
-    ensures setting { panel.new.setting ≡ panel.old.setting }
-    ensures parser { panel.new.parser ≡ panel.old.parser }
+    ensures view { panel.new.desk.view ≡ panel.old.desk.view }
+    ensures player { panel.new.player ≡ panel.old.player }
 {
     let text = panel.take_text()?;
     if !text.is_empty() {
@@ -273,27 +272,28 @@ fn tell<R: Files<File = File> + Net + Clock + Eprint + AllocGlobal, W: Write>(
 }
 
 // The same, as a part of a round.
-#[tactic(auto, using(crate::proofs::StruckLemmas::struck_same))]
+#[tactic(auto, using(crate::proofs::PlayingLemmas::goes_same))]
 fn tell_on<R: Files<File = File> + Net + Clock + Eprint + AllocGlobal, W: Write>(
     rt: &R,
     panel: &mut Panel<'_, R>,
     writer: &mut W,
 ) -> Result<(), Ending>
-    ensures { OnlyStruck panel.old.setting panel.new.setting panel.old.parser panel.new.parser
-        panel.old.desk.station panel.new.desk.station }
+    ensures { Goes (is_ok result) panel.old.player panel.new.player panel.old.desk.station panel.new.desk.station
+        panel.old.desk.view panel.new.desk.view }
 {
     tell(rt, panel, writer)
 }
 
 // One round: who presses is heard first. Answers whether the device has ended.
+#[tactic(auto, using(crate::proofs::PlayingLemmas::goes_then))]
 fn round<R: Files<File = File> + Net + Clock + Eprint + AllocGlobal, W: Write>(
     rt: &R,
     ear: &mut Ear<'_>,
     panel: &mut Panel<'_, R>,
     writer: &mut W,
 ) -> Result<bool, Ending>
-    ensures { OnlyStruck panel.old.setting panel.new.setting panel.old.parser panel.new.parser
-        panel.old.desk.station panel.new.desk.station }
+    ensures { Goes (is_ok result) panel.old.player panel.new.player panel.old.desk.station panel.new.desk.station
+        panel.old.desk.view panel.new.desk.view }
 {
     let has_ended = hear_now(rt, ear, panel, writer)?;
     look(rt, panel)?;
@@ -302,13 +302,13 @@ fn round<R: Files<File = File> + Net + Clock + Eprint + AllocGlobal, W: Write>(
 }
 
 // Waits until something comes.
-#[tactic(auto, using(crate::proofs::StruckLemmas::struck_same))]
+#[tactic(auto, using(crate::proofs::PlayingLemmas::goes_same))]
 fn wait<R: Files<File = File> + Net + Clock + Eprint + AllocGlobal>(
     rt: &R,
     panel: &mut Panel<'_, R>,
 ) -> Result<(), Ending>
-    ensures { OnlyStruck panel.old.setting panel.new.setting panel.old.parser panel.new.parser
-        panel.old.desk.station panel.new.desk.station }
+    ensures { Goes (is_ok result) panel.old.player panel.new.player panel.old.desk.station panel.new.desk.station
+        panel.old.desk.view panel.new.desk.view }
 {
     match panel.wait(PAUSE) {
         Ok(()) => Ok(()),
@@ -317,14 +317,15 @@ fn wait<R: Files<File = File> + Net + Clock + Eprint + AllocGlobal>(
 }
 
 // One round, and then it waits, unless the device has ended: it answers whether it has.
+#[tactic(auto, using(crate::proofs::PlayingLemmas::goes_then))]
 fn go_on<R: Files<File = File> + Net + Clock + Eprint + AllocGlobal, W: Write>(
     rt: &R,
     ear: &mut Ear<'_>,
     panel: &mut Panel<'_, R>,
     writer: &mut W,
 ) -> Result<bool, Ending>
-    ensures { OnlyStruck panel.old.setting panel.new.setting panel.old.parser panel.new.parser
-        panel.old.desk.station panel.new.desk.station }
+    ensures { Goes (is_ok result) panel.old.player panel.new.player panel.old.desk.station panel.new.desk.station
+        panel.old.desk.view panel.new.desk.view }
 {
     let has_ended = round(rt, ear, panel, writer)?;
     if !has_ended {
@@ -334,15 +335,15 @@ fn go_on<R: Files<File = File> + Net + Clock + Eprint + AllocGlobal, W: Write>(
 }
 
 // Hears until the device ends, or a signal ends it.
-#[tactic(auto, using(crate::proofs::StruckLemmas::struck_none, crate::proofs::StruckLemmas::struck_then))]
+#[tactic(auto, using(crate::proofs::PlayingLemmas::goes_none, crate::proofs::PlayingLemmas::goes_then))]
 fn hear_on<R: Files<File = File> + Net + Clock + Eprint + AllocGlobal, W: Write>(
     rt: &R,
     ear: &mut Ear<'_>,
     panel: &mut Panel<'_, R>,
     writer: &mut W,
 ) -> Result<(), Ending>
-    ensures { OnlyStruck panel.old.setting panel.new.setting panel.old.parser panel.new.parser
-        panel.old.desk.station panel.new.desk.station }
+    ensures { Goes (is_ok result) panel.old.player panel.new.player panel.old.desk.station panel.new.desk.station
+        panel.old.desk.view panel.new.desk.view }
 {
     for _ in 0..u64::MAX {
         if go_on(rt, ear, panel, writer)? {
@@ -354,16 +355,17 @@ fn hear_on<R: Files<File = File> + Net + Clock + Eprint + AllocGlobal, W: Write>
 
 /// Hears a panel's device at this path until the device ends, or a signal ends it. It sends one message for each press
 /// that a view has lit, and by itself asks for the status alone: each press that the desk hears is one that a message
-/// of the device means.
-#[tactic(auto, using(crate::proofs::StruckLemmas::struck_same, crate::proofs::StruckLemmas::struck_then))]
+/// of the device means. Of what happened before nothing is forgotten, and no GO that was sent.
+#[tactic(auto, using(crate::proofs::PlayingLemmas::goes_same, crate::proofs::PlayingLemmas::goes_then, crate::proofs::StruckLemmas::goes_struck))]
 pub fn hear_all<R: Files<File = File> + Net + Clock + Eprint + AllocGlobal, W: Write>(
     rt: &R,
     path: &str,
     panel: &mut Panel<'_, R>,
     writer: &mut W,
 ) -> Result<(), Ending>
-    ensures { OnlyStruck panel.old.setting panel.new.setting panel.old.parser panel.new.parser
-        panel.old.desk.station panel.new.desk.station }
+    ensures goes { Goes (is_ok result) panel.old.player panel.new.player panel.old.desk.station panel.new.desk.station
+        panel.old.desk.view panel.new.desk.view }
+    ensures struck { OnlyStruck panel.old.player panel.new.player panel.old.desk.station panel.new.desk.station }
 {
     panel.say_keys()?;
     let mut ear = Ear {

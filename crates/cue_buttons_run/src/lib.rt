@@ -17,8 +17,10 @@ mod device;
 mod hand;
 mod hearing;
 mod panel;
+mod player;
 mod pressing;
 
 pub use hand::Hand;
 pub use hearing::hear_all;
-pub use panel::{Panel, Setting};
+pub use panel::Panel;
+pub use player::Setting;

@@ -1,20 +1,22 @@
 //! What is heard of a real desk, and what it presses, as lines of text.
-ghost use Rattle.std.specs.Prelude.{◌≡◌, [], ◌∷◌, OnOk};
-ghost use Rattle.cue_buttons_run.specs.Pressing.{AtMost, HearsAll, OnlyStruck, Strikes, StrikesSpoken};
-ghost use Rattle.cue_buttons_run.specs.Pressing.{StruckBy, Takes};
+ghost use Rattle.std.specs.Prelude.{◌≡◌, [], is_ok};
+ghost use Rattle.cue_buttons_run.specs.Playing.{Gives, GivesAll, IsOpened, by_hand};
+ghost use Rattle.cue_buttons_run.specs.Pressing.{DoesPress, Strikes, StrikesBy, StrikesSpoken, Takes};
 ghost use Rattle.cue_midi.specs.Stream.{IsAfter};
 ghost use Rattle.cue_presses.specs.Address.{spoken_to};
-ghost use Rattle.cue_presses.specs.Hand.{comes_of};
+ghost use Rattle.cue_presses.specs.Hand as rule;
+ghost use Rattle.cue_presses.specs.Keys as keys;
 
 mod telling;
 
+use crate::player::{Player, Setting};
 use crate::pressing::{Outcome, press_at};
 use cue_desk_run::{Beat, Desk};
-use cue_midi::{Heard, Parser, Show};
+use cue_midi::{Heard, Show};
 use cue_press_words::{button_words, intent_words, spoken_words, trouble_words, why_words};
 use cue_presses::{
-    Address, Hand, Intent, Keys, Passed, Press, Spoken, Struck, Tally, Why, intent_of,
-    is_first_of_keys, is_of_keys, spoken_to,
+    Intent, Passed, Press, Spoken, Struck, Tally, Why, intent_of, is_first_of_keys, is_of_keys,
+    spoken_to,
 };
 use cue_view::button::Button;
 use mio::Registry;
@@ -41,24 +43,12 @@ struct Pending {
     passed: Option<u32>,
 }
 
-/// What a panel is told before it hears anything.
-#[derive(Clone, Copy)]
-pub struct Setting {
-    pub keys: Keys,
-    /// Who it is to show control.
-    pub address: Address,
-    /// The port of the controller.
-    pub port: u16,
-}
-
 /// A desk with keys.
 #[derive(Drop)]
 pub struct Panel<'a, R> {
     rt: &'a R,
     desk: Desk<'a, R>,
-    setting: Setting,
-    parser: Parser,
-    hand: Hand,
+    player: Player,
     tally: Tally,
     // How many waited in the device, and how many were too many at once.
     waited: u64,
@@ -70,29 +60,18 @@ pub struct Panel<'a, R> {
     text: String,
 }
 
-// The words of what is no key.
-fn passed_of(heard: &Heard) -> Option<Passed> {
-    match heard {
-        Heard::NoteOn { note, .. } => Some(Passed::Note(*note)),
-        Heard::Controller { number, .. } => Some(Passed::Controller(*number)),
-        Heard::Ignored(kind) => Some(Passed::Other(*kind)),
-        Heard::Show(_) => None,
-    }
-}
-
 impl<'a, R: Files<File = File> + Net + Clock + AllocGlobal> Panel<'a, R> {
     /// A panel over this desk, which has heard nothing.
     pub fn new(rt: &'a R, desk: Desk<'a, R>, setting: Setting) -> Panel<'a, R>
-        ensures unheard { IsAfter [] result.parser }
-        ensures setting { result.setting ≡ setting }
+        ensures unheard { IsAfter [] result.player.parser }
+        ensures setting { result.player.setting ≡ setting }
+        ensures hand { result.player.hand ≡ rule.idle }
     {
         let alloc = rt.alloc();
         Panel {
             rt,
             desk,
-            setting,
-            parser: Parser::new(),
-            hand: Hand::idle(),
+            player: Player::new(setting),
             tally: Tally::new(alloc),
             waited: 0,
             flooded: 0,
@@ -116,8 +95,8 @@ impl<'a, R: Files<File = File> + Net + Clock + AllocGlobal> Panel<'a, R> {
     /// Waits until something comes, and at most so many milliseconds.
     pub fn wait(&mut self, most: u64) -> io::Result<()>
         ensures station { self.new.desk.station ≡ self.old.desk.station }
-        ensures setting { self.new.setting ≡ self.old.setting }
-        ensures parser { self.new.parser ≡ self.old.parser }
+        ensures view { self.new.desk.view ≡ self.old.desk.view }
+        ensures player { self.new.player ≡ self.old.player }
     {
         self.desk.wait(most)
     }
@@ -125,8 +104,8 @@ impl<'a, R: Files<File = File> + Net + Clock + AllocGlobal> Panel<'a, R> {
     /// Why a message could not be sent, once.
     pub fn take_fault(&mut self) -> Option<io::Error>
         ensures station { self.new.desk.station ≡ self.old.desk.station }
-        ensures setting { self.new.setting ≡ self.old.setting }
-        ensures parser { self.new.parser ≡ self.old.parser }
+        ensures view { self.new.desk.view ≡ self.old.desk.view }
+        ensures player { self.new.player ≡ self.old.player }
     {
         self.desk.take_fault()
     }
@@ -134,8 +113,7 @@ impl<'a, R: Files<File = File> + Net + Clock + AllocGlobal> Panel<'a, R> {
     /// Puts a line after the others.
     pub fn line<D: Display + Drop>(&mut self, what: D) -> Result<(), AllocError>
         ensures desk { self.new.desk ≡ self.old.desk }
-        ensures setting { self.new.setting ≡ self.old.setting }
-        ensures parser { self.new.parser ≡ self.old.parser }
+        ensures player { self.new.player ≡ self.old.player }
     {
         write!(self.text, "{what}\n")
     }
@@ -143,8 +121,7 @@ impl<'a, R: Files<File = File> + Net + Clock + AllocGlobal> Panel<'a, R> {
     /// Takes the lines.
     pub fn take_text(&mut self) -> Result<String, AllocError>
         ensures desk { self.new.desk ≡ self.old.desk }
-        ensures setting { self.new.setting ≡ self.old.setting }
-        ensures parser { self.new.parser ≡ self.old.parser }
+        ensures player { self.new.player ≡ self.old.player }
     {
         let empty = String::new(self.rt.alloc());
         Ok(mem::replace(&mut self.text, empty))
@@ -153,44 +130,37 @@ impl<'a, R: Files<File = File> + Net + Clock + AllocGlobal> Panel<'a, R> {
     /// A device is opened at this moment: nothing of it was heard.
     pub fn opened(&mut self, now: u64)
         ensures desk { self.new.desk ≡ self.old.desk }
-        ensures setting { self.new.setting ≡ self.old.setting }
-        ensures parser { IsAfter [] self.new.parser }
+        ensures player { IsOpened now self.old.player self.new.player }
     {
-        self.parser = Parser::new();
-        self.hand = self.hand.opened(now);
+        self.player.open(now);
     }
 
     /// A round begins at this moment.
     pub fn begin(&mut self, now: u64)
         ensures desk { self.new.desk ≡ self.old.desk }
-        ensures setting { self.new.setting ≡ self.old.setting }
-        ensures parser { self.new.parser ≡ self.old.parser }
+        ensures player { self.new.player ≡ by_hand (rule.begun now self.old.player.hand) self.old.player }
     {
-        self.hand = self.hand.begun(now);
+        self.player.begin(now);
     }
 
     /// Whether what is read may press: nothing of it waited in the device.
     pub fn is_settled(&self) -> bool {
-        self.hand.settling.is_over()
+        self.player.hand.settling.is_over()
     }
 
     /// A read in this round has found nothing: all that waited in the device is heard.
     pub fn emptied(&mut self)
         ensures desk { self.new.desk ≡ self.old.desk }
-        ensures setting { self.new.setting ≡ self.old.setting }
-        ensures parser { self.new.parser ≡ self.old.parser }
+        ensures player { self.new.player ≡ by_hand (rule.emptied self.old.player.hand) self.old.player }
     {
-        self.hand = self.hand.emptied();
+        self.player.empty();
     }
 
-    /// Hears bytes that the device gave. It presses nothing but what a key means that was struck, or a command that was
-    /// spoken, at one of these bytes.
+    /// Hears bytes that the device gave, each of them once and in order. What a key means that was struck, or a command
+    /// that was spoken, at one of these bytes, is pressed, and nothing else. If memory runs out it ends at that byte.
     pub fn hear(&mut self, bytes: &[u8]) -> Result<(), AllocError>
-        ensures struck { StruckBy self.old.setting self.old.parser bytes.now self.old.desk.station
-            self.new.desk.station }
-        ensures hears { OnOk result (HearsAll self.old.parser bytes.now self.new.parser) }
-        ensures only { OnlyStruck self.old.setting self.new.setting self.old.parser self.new.parser
-            self.old.desk.station self.new.desk.station }
+        ensures gives { GivesAll (is_ok result) bytes.now self.old.player self.new.player self.old.desk.station
+            self.new.desk.station self.old.desk.view self.new.desk.view }
     {
         for byte in bytes {
             self.hear_byte(*byte)?;
@@ -199,50 +169,61 @@ impl<'a, R: Files<File = File> + Net + Clock + AllocGlobal> Panel<'a, R> {
     }
 
     // Hears a byte.
-    #[tactic(auto, using(crate::proofs::StruckLemmas::byte_takes, crate::proofs::StruckLemmas::by_none, crate::proofs::StruckLemmas::hears_byte))]
+    #[tactic(auto, using(crate::proofs::PlayingLemmas::byte_given, crate::proofs::PlayingLemmas::byte_left))]
     fn hear_byte(&mut self, byte: u8) -> Result<(), AllocError>
-        ensures struck { StruckBy self.old.setting self.old.parser (byte ∷ []) self.old.desk.station
-            self.new.desk.station }
-        ensures hears { HearsAll self.old.parser (byte ∷ []) self.new.parser }
-        ensures setting { self.new.setting ≡ self.old.setting }
+        ensures gives { Gives (is_ok result) byte self.old.player self.new.player self.old.desk.station
+            self.new.desk.station self.old.desk.view self.new.desk.view }
     {
-        match self.parser.hear(byte) {
+        match self.player.parser.hear(byte) {
             Some(heard) => self.take(&heard),
             None => Ok(()),
         }
     }
 
     // Takes what is heard.
-    #[tactic(auto, using(crate::proofs::PressLemmas::strikes_none_by))]
     fn take(&mut self, heard: &Heard) -> Result<(), AllocError>
-        ensures takes { Takes self.old.setting self.old.hand heard.now self.old.desk.station self.new.desk.station
-            self.old.desk.view self.new.desk.view }
-        ensures setting { self.new.setting ≡ self.old.setting }
-        ensures parser { self.new.parser ≡ self.old.parser }
+        ensures takes { Takes (is_ok result) self.old.player.setting heard.now self.old.player.hand
+            self.new.player.hand self.old.desk.station self.new.desk.station self.old.desk.view self.new.desk.view }
+        ensures setting { self.new.player.setting ≡ self.old.player.setting }
+        ensures parser { self.new.player.parser ≡ self.old.player.parser }
     {
-        if let Heard::Show(show) = heard {
-            return self.take_show(show);
+        match heard {
+            Heard::Show(show) => self.take_show(show),
+            Heard::NoteOn { note, .. } => self.take_key(heard, Passed::Note(*note)),
+            Heard::Controller { number, .. } => self.take_key(heard, Passed::Controller(*number)),
+            Heard::Ignored(kind) => self.take_key(heard, Passed::Other(*kind)),
         }
-        let keys = &self.setting.keys;
-        let intent = intent_of(keys, &self.hand.pedals, heard);
-        let is_first = is_first_of_keys(keys, &self.hand.pedals, heard);
-        self.hand = self.hand.after(keys, heard);
-        match (intent, passed_of(heard)) {
-            (Some(intent), Some(passed)) => {
+    }
+
+    // Takes what may be a key, in these words.
+    #[tactic(auto, using(crate::proofs::PressLemmas::strikes_key, crate::proofs::PressLemmas::strikes_no_key, crate::proofs::PressLemmas::strikes_none_by))]
+    fn take_key(&mut self, heard: &Heard, passed: Passed) -> Result<(), AllocError>
+        ensures strikes { StrikesBy (is_ok result) (keys.intent_of self.old.player.setting.keys
+            self.old.player.hand.pedals heard.now) (rule.after self.old.player.setting.keys heard.now
+            self.old.player.hand) self.new.player.hand self.old.desk.station self.new.desk.station self.old.desk.view
+            self.new.desk.view }
+        ensures setting { self.new.player.setting ≡ self.old.player.setting }
+        ensures parser { self.new.player.parser ≡ self.old.player.parser }
+    {
+        let keys = &self.player.setting.keys;
+        let intent = intent_of(keys, &self.player.hand.pedals, heard);
+        let is_first = is_first_of_keys(keys, &self.player.hand.pedals, heard);
+        self.player.hand = self.player.hand.after(keys, heard);
+        match intent {
+            Some(intent) => {
                 let source = passed.words(self.rt.alloc())?;
                 self.intent(source.as_str(), &intent)
             }
-            (None, Some(passed)) if is_first => self.say_first(passed),
-            (None, Some(passed)) if !is_of_keys(&self.setting.keys, heard) => self.pass(passed),
-            _ => Ok(()),
+            None if is_first => self.say_first(passed),
+            None if !is_of_keys(&self.player.setting.keys, heard) => self.pass(passed),
+            None => Ok(()),
         }
     }
 
     // Says that a controller is down, and was not heard to be let go since the device was opened.
     fn say_first(&mut self, passed: Passed) -> Result<(), AllocError>
         ensures desk { self.new.desk ≡ self.old.desk }
-        ensures setting { self.new.setting ≡ self.old.setting }
-        ensures parser { self.new.parser ≡ self.old.parser }
+        ensures player { self.new.player ≡ self.old.player }
     {
         let words = passed.words(self.rt.alloc())?;
         let words = words.as_str();
@@ -254,8 +235,7 @@ impl<'a, R: Files<File = File> + Net + Clock + AllocGlobal> Panel<'a, R> {
     // Counts what is no key.
     fn pass(&mut self, passed: Passed) -> Result<(), AllocError>
         ensures desk { self.new.desk ≡ self.old.desk }
-        ensures setting { self.new.setting ≡ self.old.setting }
-        ensures parser { self.new.parser ≡ self.old.parser }
+        ensures player { self.new.player ≡ self.old.player }
     {
         if self.tally.count(passed)? {
             let words = passed.words(self.rt.alloc())?;
@@ -266,49 +246,58 @@ impl<'a, R: Files<File = File> + Net + Clock + AllocGlobal> Panel<'a, R> {
     }
 
     // Takes a command of show control.
+    #[tactic(auto, using(crate::proofs::PressLemmas::leaves))]
     fn take_show(&mut self, show: &Show) -> Result<(), AllocError>
-        ensures strikes { StrikesSpoken (spoken_to self.old.setting.address show.now) self.old.hand
-            self.old.desk.station self.new.desk.station self.old.desk.view self.new.desk.view }
-        ensures setting { self.new.setting ≡ self.old.setting }
-        ensures parser { self.new.parser ≡ self.old.parser }
+        ensures strikes { StrikesSpoken (is_ok result) (spoken_to self.old.player.setting.address show.now)
+            self.old.player.hand self.new.player.hand self.old.desk.station self.new.desk.station self.old.desk.view
+            self.new.desk.view }
+        ensures setting { self.new.player.setting ≡ self.old.player.setting }
+        ensures parser { self.new.player.parser ≡ self.old.player.parser }
     {
-        match spoken_to(&self.setting.address, show) {
+        match spoken_to(&self.player.setting.address, show) {
             Spoken::Intent(intent) => self.intent("show control", &intent),
             Spoken::Elsewhere => self.pass(Passed::Elsewhere),
-            other => {
-                if !self.takes_finger() {
-                    return Ok(());
-                }
-                let words = spoken_words(self.rt.alloc(), &other)?;
-                let words = words.as_str();
-                self.line(format_args!("show control: {words}"))
-            }
+            other => self.say_spoken(&other),
         }
+    }
+
+    // Says why a command of show control for this desk presses nothing.
+    fn say_spoken(&mut self, spoken: &Spoken) -> Result<(), AllocError>
+        ensures desk { self.new.desk ≡ self.old.desk }
+        ensures player { self.new.player ≡ by_hand (rule.counted self.old.player.hand) self.old.player }
+    {
+        if !self.takes_finger() {
+            return Ok(());
+        }
+        let words = spoken_words(self.rt.alloc(), spoken)?;
+        let words = words.as_str();
+        self.line(format_args!("show control: {words}"))
     }
 
     // Whether one press more is heard in this round.
     fn takes_finger(&mut self) -> bool
         ensures desk { self.new.desk ≡ self.old.desk }
-        ensures setting { self.new.setting ≡ self.old.setting }
-        ensures parser { self.new.parser ≡ self.old.parser }
+        ensures player { self.new.player ≡ by_hand (rule.counted self.old.player.hand) self.old.player }
     {
-        let has_room = self.hand.has_room();
+        let has_room = self.player.hand.has_room();
         if !has_room {
             self.flooded = self.flooded.saturating_add(1);
         }
-        self.hand = self.hand.counted();
+        self.player.count();
         has_room
     }
 
     // Somebody intends something, by this key.
+    #[tactic(auto, using(crate::proofs::PressLemmas::leaves))]
     fn intent(&mut self, source: &str, intent: &Intent) -> Result<(), AllocError>
-        ensures strikes { Strikes (comes_of self.old.hand self.old.desk.view intent.now) self.old.desk.station
-            self.new.desk.station self.old.desk.view self.new.desk.view }
-        ensures setting { self.new.setting ≡ self.old.setting }
-        ensures parser { self.new.parser ≡ self.old.parser }
+        ensures strikes { Strikes (is_ok result) (rule.comes_of self.old.player.hand self.old.desk.view intent.now)
+            (rule.counted self.old.player.hand) self.new.player.hand self.old.desk.station self.new.desk.station
+            self.old.desk.view self.new.desk.view }
+        ensures setting { self.new.player.setting ≡ self.old.player.setting }
+        ensures parser { self.new.player.parser ≡ self.old.player.parser }
     {
-        let struck = self.hand.strikes(self.desk.view(), intent);
-        self.hand = self.hand.counted();
+        let struck = self.player.hand.strikes(self.desk.view(), intent);
+        self.player.count();
         match struck {
             Struck::Presses(press) => self.press(source, &press),
             Struck::Refused(why) => self.refuse(source, intent, why),
@@ -329,11 +318,10 @@ impl<'a, R: Files<File = File> + Net + Clock + AllocGlobal> Panel<'a, R> {
     // Says why an intent presses nothing.
     fn refuse(&mut self, source: &str, intent: &Intent, why: Why) -> Result<(), AllocError>
         ensures desk { self.new.desk ≡ self.old.desk }
-        ensures setting { self.new.setting ≡ self.old.setting }
-        ensures parser { self.new.parser ≡ self.old.parser }
+        ensures player { self.new.player ≡ self.old.player }
     {
         let alloc = self.rt.alloc();
-        let words = match trouble_words(alloc, self.desk.view(), self.setting.port)? {
+        let words = match trouble_words(alloc, self.desk.view(), self.player.setting.port)? {
             Some(words) => words,
             None => why_words(alloc, self.desk.view(), intent, why)?,
         };
@@ -343,12 +331,12 @@ impl<'a, R: Files<File = File> + Net + Clock + AllocGlobal> Panel<'a, R> {
     }
 
     // Presses.
-    #[tactic(auto, using(crate::proofs::PressLemmas::at_most, crate::proofs::PressLemmas::at_most_none))]
+    #[tactic(auto, using(crate::proofs::PressLemmas::does_press, crate::proofs::PressLemmas::at_most_none))]
     fn press(&mut self, source: &str, press: &Press) -> Result<(), AllocError>
-        ensures presses { AtMost press.now self.old.desk.station self.new.desk.station self.old.desk.view
-            self.new.desk.view }
-        ensures setting { self.new.setting ≡ self.old.setting }
-        ensures parser { self.new.parser ≡ self.old.parser }
+        ensures presses { DoesPress (is_ok result) press.now self.old.player.hand self.new.player.hand
+            self.old.desk.station self.new.desk.station self.old.desk.view self.new.desk.view }
+        ensures setting { self.new.player.setting ≡ self.old.player.setting }
+        ensures parser { self.new.player.parser ≡ self.old.player.parser }
     {
         let alloc = self.rt.alloc();
         let button = button_words(alloc, press.button, self.desk.together())?;
@@ -367,17 +355,17 @@ impl<'a, R: Files<File = File> + Net + Clock + AllocGlobal> Panel<'a, R> {
     // Notes a press that is sent.
     fn note(&mut self, button: Button, ask: u64, what: String)
         ensures desk { self.new.desk ≡ self.old.desk }
-        ensures setting { self.new.setting ≡ self.old.setting }
-        ensures parser { self.new.parser ≡ self.old.parser }
+        ensures player { self.new.player ≡ by_hand (rule.sent self.old.desk.view button self.old.player.hand)
+            self.old.player }
     {
-        let passed = self.hand.passed;
-        self.hand = self.hand.sent(self.desk.view(), button);
+        let hand = self.player.hand;
+        self.player.hand = hand.sent(self.desk.view(), button);
         let newest = Pending {
             ask,
-            since: self.hand.at,
+            since: hand.at,
             what,
             is_told: false,
-            passed,
+            passed: hand.passed,
         };
         self.before = mem::replace(&mut self.pending, Some(newest));
     }

@@ -1,5 +1,6 @@
 //! What a panel says of its keys, of what it heard, and of what became of its presses, as lines of text.
 ghost use Rattle.std.specs.Prelude.{◌≡◌};
+ghost use Rattle.cue_buttons_run.specs.Playing.{Undoes};
 ghost use Rattle.cue_desk_run.specs.Working.{OnlyLooks};
 
 use crate::panel::{Panel, Pending};
@@ -48,10 +49,9 @@ impl<R: Files<File = File> + Net + Clock + AllocGlobal> Panel<'_, R> {
     /// Says which key is which.
     pub fn say_keys(&mut self) -> Result<(), AllocError>
         ensures desk { self.new.desk ≡ self.old.desk }
-        ensures setting { self.new.setting ≡ self.old.setting }
-        ensures parser { self.new.parser ≡ self.old.parser }
+        ensures player { self.new.player ≡ self.old.player }
     {
-        let (alloc, keys) = (self.rt.alloc(), &self.setting.keys);
+        let (alloc, keys) = (self.rt.alloc(), &self.player.setting.keys);
         let standby = key_words(alloc, keys.standby)?;
         let go = key_words(alloc, keys.go)?;
         let cancel = key_words(alloc, keys.cancel)?;
@@ -64,8 +64,7 @@ impl<R: Files<File = File> + Net + Clock + AllocGlobal> Panel<'_, R> {
     /// Says what was heard and is no key.
     pub fn say_tally(&mut self) -> Result<(), AllocError>
         ensures desk { self.new.desk ≡ self.old.desk }
-        ensures setting { self.new.setting ≡ self.old.setting }
-        ensures parser { self.new.parser ≡ self.old.parser }
+        ensures player { self.new.player ≡ self.old.player }
     {
         let text = self.tally.text(self.rt.alloc())?;
         if text.is_empty() {
@@ -76,10 +75,10 @@ impl<R: Files<File = File> + Net + Clock + AllocGlobal> Panel<'_, R> {
     }
 
     /// Hears the controller and the store, and says what became of a press. It presses nothing.
+    #[tactic(auto, using(crate::proofs::PlayingLemmas::undoes_none))]
     pub fn round(&mut self) -> io::Result<()>
         ensures looks { OnlyLooks self.old.desk.station self.new.desk.station }
-        ensures setting { self.new.setting ≡ self.old.setting }
-        ensures parser { self.new.parser ≡ self.old.parser }
+        ensures player { Undoes self.old.player self.new.player }
     {
         self.desk.round()?;
         self.say_pending()?;
@@ -100,10 +99,9 @@ impl<R: Files<File = File> + Net + Clock + AllocGlobal> Panel<'_, R> {
     // Says what became of a press.
     fn say_became(&mut self, what: &str, became: Became) -> Result<(), AllocError>
         ensures desk { self.new.desk ≡ self.old.desk }
-        ensures setting { self.new.setting ≡ self.old.setting }
-        ensures parser { self.new.parser ≡ self.old.parser }
+        ensures player { self.new.player ≡ self.old.player }
     {
-        let words = became_words(self.rt.alloc(), became, self.setting.port)?;
+        let words = became_words(self.rt.alloc(), became, self.player.setting.port)?;
         let words = words.as_str();
         self.line(format_args!("{what}: {words}"))
     }
@@ -112,14 +110,13 @@ impl<R: Files<File = File> + Net + Clock + AllocGlobal> Panel<'_, R> {
     // end is told.
     fn say_press(&mut self, pending: Pending) -> Result<Option<Pending>, AllocError>
         ensures desk { self.new.desk ≡ self.old.desk }
-        ensures setting { self.new.setting ≡ self.old.setting }
-        ensures parser { self.new.parser ≡ self.old.parser }
+        ensures player { self.new.player ≡ self.old.player }
     {
         let Some(became) = self.became(pending.ask) else {
             return Ok(Some(pending));
         };
         let is_open = matches!(became, Became::Open | Became::Unshown);
-        let is_long = !pending.is_told && self.hand.at.saturating_sub(pending.since) > OPEN;
+        let is_long = !pending.is_told && self.player.hand.at.saturating_sub(pending.since) > OPEN;
         if is_open && !is_long {
             return Ok(Some(pending));
         }
@@ -131,11 +128,12 @@ impl<R: Files<File = File> + Net + Clock + AllocGlobal> Panel<'_, R> {
         }
     }
 
-    // Says what became of the press before the newest one, and of that.
+    // Says what became of the press before the newest one, and of that. If it was not carried out, what was passed
+    // before it counts again.
+    #[tactic(auto, using(crate::proofs::PlayingLemmas::undoes_none, crate::proofs::PlayingLemmas::undoes_to))]
     fn say_pending(&mut self) -> Result<(), AllocError>
         ensures desk { self.new.desk ≡ self.old.desk }
-        ensures setting { self.new.setting ≡ self.old.setting }
-        ensures parser { self.new.parser ≡ self.old.parser }
+        ensures player { Undoes self.old.player self.new.player }
     {
         if let Some(before) = self.before.take() {
             self.before = self.say_press(before)?;
@@ -144,7 +142,7 @@ impl<R: Files<File = File> + Net + Clock + AllocGlobal> Panel<'_, R> {
             return Ok(());
         };
         if self.became(pending.ask).is_some_and(is_undone) {
-            self.hand.passed = pending.passed;
+            self.player.hand.passed = pending.passed;
         }
         self.pending = self.say_press(pending)?;
         Ok(())
@@ -153,17 +151,16 @@ impl<R: Files<File = File> + Net + Clock + AllocGlobal> Panel<'_, R> {
     // Says what was dropped.
     fn say_dropped(&mut self) -> Result<(), AllocError>
         ensures desk { self.new.desk ≡ self.old.desk }
-        ensures setting { self.new.setting ≡ self.old.setting }
-        ensures parser { self.new.parser ≡ self.old.parser }
+        ensures player { self.new.player ≡ self.old.player }
     {
-        if self.waited > 0 && self.hand.settling.is_over() {
+        if self.waited > 0 && self.player.hand.settling.is_over() {
             let waited = mem::replace(&mut self.waited, 0);
             let presses = presses_word(waited);
             self.line(format_args!(
                 "{waited} {presses} waited in the device, nobody knows how long: dropped"
             ))?;
         }
-        if self.flooded > 0 && self.floods.is_due(self.hand.at) {
+        if self.flooded > 0 && self.floods.is_due(self.player.hand.at) {
             let flooded = mem::replace(&mut self.flooded, 0);
             let presses = presses_word(flooded);
             self.line(format_args!("{flooded} {presses} more at once than fingers: dropped"))?;
@@ -176,7 +173,8 @@ impl<R: Files<File = File> + Net + Clock + AllocGlobal> Panel<'_, R> {
     fn is_tapped(&self, what: &str) -> bool {
         match &self.pending {
             Some(pending) => {
-                pending.what.as_str() == what && self.hand.at.saturating_sub(pending.since) < TAP_MS
+                pending.what.as_str() == what
+                    && self.player.hand.at.saturating_sub(pending.since) < TAP_MS
             }
             None => false,
         }
@@ -185,13 +183,12 @@ impl<R: Files<File = File> + Net + Clock + AllocGlobal> Panel<'_, R> {
     // Says why a press was not sent.
     pub(super) fn say_unsent(&mut self, what: &str, unsent: Unsent) -> Result<(), AllocError>
         ensures desk { self.new.desk ≡ self.old.desk }
-        ensures setting { self.new.setting ≡ self.old.setting }
-        ensures parser { self.new.parser ≡ self.old.parser }
+        ensures player { self.new.player ≡ self.old.player }
     {
         if self.is_tapped(what) {
             return self.line(format_args!("{what}: a second tap within a second: nothing is sent"));
         }
-        match trouble_words(self.rt.alloc(), self.desk.view(), self.setting.port)? {
+        match trouble_words(self.rt.alloc(), self.desk.view(), self.player.setting.port)? {
             Some(words) => {
                 let words = words.as_str();
                 self.line(format_args!("{what}: not sent: {words}"))

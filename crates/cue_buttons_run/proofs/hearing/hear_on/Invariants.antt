@@ -1,8 +1,9 @@
-use Rattle.cue_buttons_run.specs.Pressing.{OnlyStruck}
+use Rattle.std.proofs.Common.{true}
+use Rattle.cue_buttons_run.specs.Playing.{Goes}
 use Rattle.cue_buttons_run.proofs.hearing.hear_on.Given as goal
 
--- what was heard so far was struck
+-- so far it went on, and each byte was taken whole
 abbrev pub invariant-loop : goal.invariant-loop
 invariant-loop g l =
-    OnlyStruck l.fn.panel.setting l.panel.setting l.fn.panel.parser l.panel.parser l.fn.panel.desk.station
-    l.panel.desk.station
+    Goes true l.fn.panel.player l.panel.player l.fn.panel.desk.station l.panel.desk.station l.fn.panel.desk.view
+    l.panel.desk.view

@@ -1,8 +1,8 @@
 -- For what a panel lets the desk hear a press.
 use Rattle.std.proofs.Common.{◌≡◌, ◌∙◌, refl, sym, ap, subst, inl, inr, ℕ, Bool, true, false, Option, None, Some}
-use Rattle.std.proofs.Common.{List, [], ◌∷◌}
+use Rattle.std.proofs.Common.{List, [], ◌∷◌, ◌++◌}
 use Rattle.std.proofs.lemmas.Option.{none-some}
-use Rattle.cue_desk_run.specs.Working.{HearsFor, Stays}
+use Rattle.cue_desk_run.specs.Working.{HearsFor, OnlyLooks, Stays}
 use Rattle.cue_desk_run.proofs.WorkLemmas.{for_if, for_looks, for_stays, for_then}
 use Rattle.cue_midi.specs.declared.heard.Heard.{Heard}
 use Rattle.cue_midi.specs.declared.heard.Heard.TheVariants as midi
@@ -22,8 +22,9 @@ use Rattle.cue_station.specs.declared.station.Station.{Station}
 use Rattle.cue_view.specs.declared.button.Button.{Button}
 use Rattle.cue_view.specs.declared.button.Button.TheVariants as button
 use Rattle.cue_view.specs.declared.view.View.{View}
-use Rattle.cue_buttons_run.specs.Playing.{AllHappen, Goes, Happening, Happens, Stand, TakesIf, stand}
-use Rattle.cue_buttons_run.specs.Playing.{begins, empties, gives, looks, opens}
+use Rattle.cue_buttons_run.specs.Playing.{AllHappen, AllRounds, Ends, Goes, Happening, Happens, HasListened, Hears}
+use Rattle.cue_buttons_run.specs.Playing.{IsRound, Listens, OpensIf, Rounds, Stand, TakesIf, Undoes, begun_at, empties}
+use Rattle.cue_buttons_run.specs.Playing.{gives, stand}
 use Rattle.cue_buttons_run.specs.Pressing.{AtMost, Chooses, DoesPress, HasHeard, IsOfPress, IsStruck}
 use Rattle.cue_buttons_run.specs.Pressing.{Leaves, MeansBy, Means, MeansSpoken, OnlyStruck, Presses, PressesIf}
 use Rattle.cue_buttons_run.specs.Pressing.{StillHears, Strikes, StrikesBy, StrikesSpoken, Takes}
@@ -168,17 +169,17 @@ struck-stays p p_then old new v v_then same still stays =
       setting = same;
     }
 
+-- nor does anybody play
+struck-by : (p p_then : Player) (old new : Station) (v v_then : View) → p_then.setting ≡ p.setting
+    → p_then.parser ≡ p.parser → Stays old new v v_then → OnlyStruck p p_then old new
+struck-by p p_then old new v v_then same kept stays =
+    struck-stays p p_then old new v v_then same (still-same p.parser p_then.parser kept) stays
+
 -- one thing happens
 struck-one : (h : Happening) (a b : Stand) → Happens h a b → OnlyStruck a.player b.player a.station b.station
-struck-one (opens now) a b c =
-    struck-stays a.player b.player a.station b.station a.view b.view c.0.setting
-    (record { still = λ has. record { past = []; after = c.0.parser } }) c.1
-struck-one (begins now) a b c =
-    struck-stays a.player b.player a.station b.station a.view b.view (ap (λ (x : Player). x.setting) c.0)
-    (still-same a.player.parser b.player.parser (ap (λ (x : Player). x.parser) c.0)) c.1
 struck-one empties a b c =
-    struck-stays a.player b.player a.station b.station a.view b.view (ap (λ (x : Player). x.setting) c.0)
-    (still-same a.player.parser b.player.parser (ap (λ (x : Player). x.parser) c.0)) c.1
+    struck-by a.player b.player a.station b.station a.view b.view (ap (λ (x : Player). x.setting) c.0)
+    (ap (λ (x : Player). x.parser) c.0) c.1
 struck-one (gives w byte) a b c =
     record {
       struck = λ has.
@@ -186,12 +187,6 @@ struck-one (gives w byte) a b c =
           b.player.hand a.station b.station a.view b.view c.takes;
       parser = record { still = λ has. record { past = byte ∷ has.past; after = c.keeps has.past has.after } };
       setting = c.setting;
-    }
-struck-one looks a b c =
-    record {
-      struck = λ has. for_looks (IsStruck a.player.setting) a.station b.station c.1;
-      parser = still-same a.player.parser b.player.parser (ap (λ (x : Player). x.parser) c.0.1);
-      setting = ap (λ (x : Player). x.setting) c.0.1;
     }
 
 -- first the one, and then the other
@@ -205,16 +200,92 @@ struck-then p mid p_then old between new a b =
       setting = b.setting ∙ a.setting;
     }
 
+struck-same : (a b : Stand) → b ≡ a → OnlyStruck a.player b.player a.station b.station
+struck-same a b e =
+    struck-by a.player b.player a.station b.station a.view b.view (ap (λ (x : Stand). x.player.setting) e)
+    (ap (λ (x : Stand). x.player.parser) e) (ap (λ (x : Stand). x.station) e, ap (λ (x : Stand). x.view) e)
+
 struck-all : (hs : List Happening) (a b : Stand) → AllHappen hs a b → OnlyStruck a.player b.player a.station b.station
-struck-all [] a b e =
-    struck-stays a.player b.player a.station b.station a.view b.view (ap (λ (x : Stand). x.player.setting) e)
-    (still-same a.player.parser b.player.parser (ap (λ (x : Stand). x.player.parser) e))
-    (ap (λ (x : Stand). x.station) e, ap (λ (x : Stand). x.view) e)
+struck-all [] a b e = struck-same a b e
 struck-all (h ∷ more) a b all =
     struck-then a.player all.0.player b.player a.station all.0.station b.station (struck-one h a all.0 all.1)
     (struck-all more all.0 b all.2)
 
+-- ---- rounds
+
+hears-struck : (w : Bool) (p p_then : Player) (old new : Station) (v v_then : View) → Hears w p p_then old new v v_then
+    → OnlyStruck p p_then old new
+hears-struck w p p_then old new v v_then h =
+    struck-all (h.happened ++ h.last) (stand p old v) (stand p_then new v_then) h.happens
+
+opens-struck : (is_opened : Bool) (now : ℕ) (p p_then : Player) (old new : Station) (v v_then : View)
+    → OpensIf is_opened now p p_then → Stays old new v v_then → OnlyStruck p p_then old new
+opens-struck true now p p_then old new v v_then opens stays =
+    struck-stays p p_then old new v v_then opens.setting
+    (record { still = λ has. record { past = []; after = opens.parser } }) stays
+opens-struck false now p p_then old new v v_then same stays =
+    struck-by p p_then old new v v_then (ap (λ (x : Player). x.setting) same) (ap (λ (x : Player). x.parser) same) stays
+
+listens-struck : (w : Bool) (now : ℕ) (p p_then : Player) (old new : Station) (v v_then : View)
+    → Listens w now p p_then old new v v_then → OnlyStruck p p_then old new
+listens-struck w now p p_then old new v v_then l =
+    struck-then p l.opened p_then old old new
+    (opens-struck l.opens.0 now p l.opened old old v v l.opens.1 (refl, refl))
+    (struck-then l.opened (begun_at now l.opened) p_then old old new
+    (struck-by l.opened (begun_at now l.opened) old old v v refl refl (refl, refl))
+    (hears-struck w (begun_at now l.opened) p_then old new v v_then l.hears))
+
+listened-struck : (w : Bool) (p p_then : Player) (old new : Station) (v v_then : View)
+    → HasListened w p p_then old new v v_then → OnlyStruck p p_then old new
+listened-struck true p p_then old new v v_then h = listens-struck true h.0 p p_then old new v v_then h.1
+listened-struck false p p_then old new v v_then h =
+    elim h.1 [
+      | inl l ↦ listens-struck false h.0 p p_then old new v v_then l
+      | inr o ↦ opens-struck o.0.0 h.0 p p_then old new v v_then o.0.1 o.1
+    ]
+
+undoes-struck : (p p_then : Player) (v : View) (old new : Station) → OnlyLooks old new → Undoes p p_then v
+    → OnlyStruck p p_then old new
+undoes-struck p p_then v old new looks (inl same) =
+    record {
+      struck = λ has. for_looks (IsStruck p.setting) old new looks;
+      parser = still-same p.parser p_then.parser (ap (λ (x : Player). x.parser) same);
+      setting = ap (λ (x : Player). x.setting) same;
+    }
+undoes-struck p p_then v old new looks (inr undone) =
+    record {
+      struck = λ has. for_looks (IsStruck p.setting) old new looks;
+      parser = still-same p.parser p_then.parser (ap (λ (x : Player). x.parser) undone.2);
+      setting = ap (λ (x : Player). x.setting) undone.2;
+    }
+
+round-struck : (p p_then : Player) (old new : Station) (v v_then : View) → IsRound p p_then old new v v_then
+    → OnlyStruck p p_then old new
+round-struck p p_then old new v v_then r =
+    struck-then p r.mid.player p_then old r.mid.station new
+    (listened-struck true p r.mid.player old r.mid.station v r.mid.view r.listens)
+    (undoes-struck r.mid.player p_then v_then r.mid.station new r.looks r.undoes)
+
+failed-struck : (p p_then : Player) (old new : Station) (v v_then : View) → Rounds false p p_then old new v v_then
+    → OnlyStruck p p_then old new
+failed-struck p p_then old new v v_then (inl l) = listened-struck false p p_then old new v v_then l
+failed-struck p p_then old new v v_then (inr r) = round-struck p p_then old new v v_then r
+
+rounds-struck : (ss : List Stand) (a b : Stand) → AllRounds ss a b → OnlyStruck a.player b.player a.station b.station
+rounds-struck [] a b e = struck-same a b e
+rounds-struck (s ∷ more) a b all =
+    struck-then a.player s.player b.player a.station s.station b.station
+    (round-struck a.player s.player a.station s.station a.view s.view all.0) (rounds-struck more s b all.1)
+
+ends-struck : (w : Bool) (a b : Stand) → Ends w a b → OnlyStruck a.player b.player a.station b.station
+ends-struck true a b e = struck-same a b e
+ends-struck false a b (inl e) = struck-same a b e
+ends-struck false a b (inr r) = failed-struck a.player b.player a.station b.station a.view b.view r
+
 -- a panel that went on so has pressed what was struck
 pub goes_struck : (w : Bool) (p p_then : Player) (old new : Station) (v v_then : View) → Goes w p p_then old new v v_then
     → OnlyStruck p p_then old new
-goes_struck w p p_then old new v v_then g = struck-all g.happened (stand p old v) (stand p_then new v_then) g.happens
+goes_struck w p p_then old new v v_then g =
+    struck-then p g.last.player p_then old g.last.station new
+    (rounds-struck g.after_each (stand p old v) g.last g.rounds)
+    (ends-struck w g.last (stand p_then new v_then) g.ends)

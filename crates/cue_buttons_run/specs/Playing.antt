@@ -1,6 +1,6 @@
--- What happens at a panel, one thing after the other, and how it stands then: in between nothing is forgotten.
-use Rattle.std.specs.Prelude.{◌≡◌, ◌≤◌, ◌<◌, ℕ, Bool, true, false, List, [], ◌∷◌, ◌++◌, map, take, get_or, length}
-use Rattle.std.specs.Prelude.{Option, None, Some}
+-- What happens at a panel, round by round, and how it stands then: in between nothing is forgotten.
+use Rattle.std.specs.Prelude.{◌≡◌, ◌≤◌, ◌<◌, ◌⊎◌, ℕ, Bool, true, false, List, [], ◌∷◌, ◌++◌, map, take, get_or, length}
+use Rattle.std.specs.Prelude.{Option, None, Some, if◌then◌else◌, nat_le}
 use Rattle.std.specs.List.{list_all}
 use Rattle.cue_desk_run.specs.Working.{OnlyLooks, Stays}
 use Rattle.cue_midi.specs.declared.heard.Heard.{Heard}
@@ -8,8 +8,13 @@ use Rattle.cue_midi.specs.Stream.{HearsAt, IsAfter, KeepsAt}
 use Rattle.cue_presses.specs.declared.hand.Hand.{Hand}
 use Rattle.cue_presses.specs.Hand.{begun, emptied, opened_at}
 use Rattle.cue_station.specs.declared.station.Station.{Station}
+use Rattle.cue_view.specs.declared.view.Became.{Became}
+use Rattle.cue_view.specs.declared.view.Became.TheVariants as became
+use Rattle.cue_view.specs.declared.view.Said.{Said}
 use Rattle.cue_view.specs.declared.view.View.{View}
 use Rattle.cue_buttons_run.specs.Pressing.{Leaves, Takes}
+use Rattle.cue_buttons_run.specs.declared.device.Came.{Came}
+use Rattle.cue_buttons_run.specs.declared.device.Came.TheVariants as came
 use Rattle.cue_buttons_run.specs.declared.player.Player.{Player}
 use Rattle.cue_buttons_run.specs.declared.player.Setting.{Setting}
 
@@ -19,15 +24,45 @@ use Rattle.cue_buttons_run.specs.declared.player.Setting.{Setting}
 abbrev pub by_hand : Hand → Player → Player
 by_hand h p = record p { hand = h }
 
--- A device is opened at this moment: of what it began before nothing is left.
+-- A device is opened at this moment: no byte of it was heard, of its controllers nothing is known, and it settles. A GO
+-- that was sent stays known.
 pub record IsOpened (now : ℕ) (p p_then : Player) : Type 0 where
   pub setting : p_then.setting ≡ p.setting
   pub hand : p_then.hand ≡ opened_at now p.hand
   pub parser : IsAfter [] p_then.parser
 
--- What was passed before a press counts again if that press was not carried out. Nothing else is changed.
-abbrev pub Undoes : (p p_then : Player) → Type 0
-Undoes p p_then = (passed : Option ℕ) × (p_then ≡ by_hand (record p.hand { passed = passed }) p)
+-- if it is opened at all
+abbrev pub OpensIf : Bool → ℕ → (p p_then : Player) → Type 0
+OpensIf true now p p_then = IsOpened now p p_then
+OpensIf false now p p_then = p_then ≡ p
+
+abbrev pub Opens : ℕ → (p p_then : Player) → Type 0
+Opens now p p_then = (is_opened : Bool) × OpensIf is_opened now p p_then
+
+-- a round begins at this moment
+abbrev pub begun_at : ℕ → Player → Player
+begun_at now p = by_hand (begun now p.hand) p
+
+-- ---- what was not carried out
+
+-- a press was not carried out, and never will be
+abbrev pub is_undone : Became → Bool
+is_undone (became.Refused code) = true
+is_undone became.Nobody = true
+is_undone became.Lost = true
+is_undone _ = false
+
+-- a view says so of the last press, or of the one before it
+pub record TellsUndone (v : View) : Type 0 where
+  pub said : Said
+  pub told : (v.said ≡ Some said) ⊎ (v.before ≡ Some said)
+  pub undone : is_undone said.became ≡ true
+
+-- Where a view says that a press was not carried out, what was passed before a press may count again. Nothing else is
+-- changed.
+abbrev pub Undoes : (p p_then : Player) → View → Type 0
+Undoes p p_then v = (p_then ≡ p) ⊎ (TellsUndone v × (passed : Option ℕ)
+    × (p_then ≡ by_hand (record p.hand { passed = passed }) p))
 
 -- ---- a byte
 
@@ -36,7 +71,8 @@ abbrev pub TakesIf : Bool → Setting → Option Heard → (h h_then : Hand) →
 TakesIf w s (Some m) h h_then old new v v_then = Takes w s m h h_then old new v v_then
 TakesIf w s None h h_then old new v v_then = Leaves w h h_then old new v v_then
 
--- The device gives a byte: what that finishes, after the bytes before it, is taken by the hand as it stands.
+-- The device gives a byte: what that finishes is taken by the hand as it stands. What it finishes is said by the bytes
+-- before it, whichever the parser has heard.
 pub record Gives (w : Bool) (byte : ℕ) (p p_then : Player) (old new : Station) (v v_then : View) : Type 0 where
   pub message : Option Heard
   pub hears : HearsAt p.parser byte message
@@ -55,24 +91,18 @@ pub record Stand : Type 0 where
 abbrev pub stand : Player → Station → View → Stand
 stand p s v = record { player = p; station = s; view = v }
 
--- what happens: a device is opened, or a round begins, at this moment; a read finds nothing; the device gives a byte, and
--- there is memory for what it means or not; the desk hears the controller and the store
+-- what happens while a device is heard
 pub data Happening : Type 0 where
-  opens : (now : ℕ) → Happening
-  begins : (now : ℕ) → Happening
-  empties : Happening
+  -- it gives a byte, and there is memory for what that means, or not
   gives : (whole : Bool) (byte : ℕ) → Happening
-  looks : Happening
+  -- a read finds nothing
+  empties : Happening
 
 -- how a panel stands after it
 abbrev pub Happens : Happening → (a b : Stand) → Type 0
-Happens (opens now) a b = IsOpened now a.player b.player × Stays a.station b.station a.view b.view
-Happens (begins now) a b =
-    (b.player ≡ by_hand (begun now a.player.hand) a.player) × Stays a.station b.station a.view b.view
+Happens (gives w byte) a b = Gives w byte a.player b.player a.station b.station a.view b.view
 Happens empties a b =
     (b.player ≡ by_hand (emptied a.player.hand) a.player) × Stays a.station b.station a.view b.view
-Happens (gives w byte) a b = Gives w byte a.player b.player a.station b.station a.view b.view
-Happens looks a b = Undoes a.player b.player × OnlyLooks a.station b.station
 
 -- and after all of these
 abbrev pub AllHappen : List Happening → (a b : Stand) → Type 0
@@ -82,25 +112,89 @@ AllHappen (h ∷ more) a b = (mid : Stand) × Happens h a mid × AllHappen more 
 -- there was memory for it
 abbrev pub is_whole : Happening → Bool
 is_whole (gives w byte) = w
-is_whole _ = true
+is_whole empties = true
 
--- The panel went on so: each press was struck at a byte, by the hand that all that happened before had made. As long as
--- there was memory each byte was taken whole.
-pub record Goes (w : Bool) (p p_then : Player) (old new : Station) (v v_then : View) : Type 0 where
+-- nothing is cut off; or memory ran out at the last byte, if it was at one
+abbrev pub IsCut : Bool → List Happening → Type 0
+IsCut true last = last ≡ []
+IsCut false last = (last ≡ []) ⊎ ((byte : ℕ) × (last ≡ gives false byte ∷ []))
+
+-- A panel hears a device: it takes each byte whole, by the hand that all before had made, until memory runs out, if it
+-- does.
+pub record Hears (w : Bool) (p p_then : Player) (old new : Station) (v v_then : View) : Type 0 where
   pub happened : List Happening
-  pub whole : w ≡ true → list_all is_whole happened ≡ true
-  pub happens : AllHappen happened (stand p old v) (stand p_then new v_then)
+  pub whole : list_all is_whole happened ≡ true
+  pub last : List Happening
+  pub cut : IsCut w last
+  pub happens : AllHappen (happened ++ last) (stand p old v) (stand p_then new v_then)
 
 -- the byte at which memory ran out, if it did
 abbrev pub cut_at : Bool → ℕ → List Happening
 cut_at true byte = []
 cut_at false byte = gives false byte ∷ []
 
--- The device gave these bytes, each once and in order, and they were taken: all of them, or those up to the one at which
--- memory ran out.
+-- These bytes are handed to a panel, each once and in order: all of them, or those up to the one at which memory ran
+-- out.
 pub record GivesAll (w : Bool) (bytes : List ℕ) (p p_then : Player) (old new : Station) (v v_then : View) : Type 0 where
   pub count : ℕ
   pub all : w ≡ true → length bytes ≤ count
   pub some : w ≡ false → count < length bytes
   pub happens : AllHappen (map (λ b. gives true b) (take count bytes) ++ cut_at w (get_or bytes count 0))
       (stand p old v) (stand p_then new v_then)
+
+-- ---- what comes of a reading
+
+-- the first so many bytes of a room, if it has as many
+abbrev pub bytes_in : ℕ → List ℕ → List ℕ
+bytes_in n room = if nat_le n (length room) then take n room else []
+
+-- The bytes that a reading gave are heard; nothing else is. If it found nothing, the panel knows that.
+abbrev pub HearsCame : Bool → Came → List ℕ → (p p_then : Player) → (old new : Station) → (v v_then : View) → Type 0
+HearsCame w (came.Bytes n) room p p_then old new v v_then = GivesAll w (bytes_in n room) p p_then old new v v_then
+HearsCame w came.Nothing room p p_then old new v v_then =
+    (p_then ≡ by_hand (emptied p.hand) p) × Stays old new v v_then
+HearsCame w _ room p p_then old new v v_then = (p_then ≡ p) × Stays old new v v_then
+
+-- ---- rounds
+
+-- A device may be opened; then the round begins, both at this moment; and then the device is heard.
+pub record Listens (w : Bool) (now : ℕ) (p p_then : Player) (old new : Station) (v v_then : View) : Type 0 where
+  pub opened : Player
+  pub opens : Opens now p opened
+  pub hears : Hears w (begun_at now opened) p_then old new v v_then
+
+-- the same at some moment; if it ended in a failure, it may not have begun
+abbrev pub HasListened : Bool → (p p_then : Player) → (old new : Station) → (v v_then : View) → Type 0
+HasListened true p p_then old new v v_then = (now : ℕ) × Listens true now p p_then old new v v_then
+HasListened false p p_then old new v v_then =
+    (now : ℕ) × (Listens false now p p_then old new v v_then ⊎ (Opens now p p_then × Stays old new v v_then))
+
+-- A whole round: it listens, and then the desk looks at the controller and the store.
+pub record IsRound (p p_then : Player) (old new : Station) (v v_then : View) : Type 0 where
+  pub mid : Stand
+  pub listens : HasListened true p mid.player old mid.station v mid.view
+  pub looks : OnlyLooks mid.station new
+  pub undoes : Undoes mid.player p_then v_then
+
+-- a round, perhaps one that ended in a failure
+abbrev pub Rounds : Bool → (p p_then : Player) → (old new : Station) → (v v_then : View) → Type 0
+Rounds true p p_then old new v v_then = IsRound p p_then old new v v_then
+Rounds false p p_then old new v v_then =
+    HasListened false p p_then old new v v_then ⊎ IsRound p p_then old new v v_then
+
+-- round by round
+abbrev pub AllRounds : List Stand → (a b : Stand) → Type 0
+AllRounds [] a b = b ≡ a
+AllRounds (s ∷ more) a b = IsRound a.player s.player a.station s.station a.view s.view × AllRounds more s b
+
+-- how it ends: with the last round, or in one that fails
+abbrev pub Ends : Bool → (a b : Stand) → Type 0
+Ends true a b = b ≡ a
+Ends false a b = (b ≡ a) ⊎ Rounds false a.player b.player a.station b.station a.view b.view
+
+-- The panel goes on round by round, and nothing happens between two of them.
+pub record Goes (w : Bool) (p p_then : Player) (old new : Station) (v v_then : View) : Type 0 where
+  pub after_each : List Stand
+  pub last : Stand
+  pub rounds : AllRounds after_each (stand p old v) last
+  pub ends : Ends w last (stand p_then new v_then)

@@ -84,13 +84,13 @@ hand_after p (outcome.Sent ask) v h = sent v p.button h
 hand_after p (outcome.Unsent u) v h = h
 hand_after p outcome.Unheard v h = h
 
--- It is pressed, and the hand knows.
+-- It is pressed once, or the desk could not hear it; and the hand knows which.
 pub record IsPressed (p : Press) (h h_then : Hand) (old new : Station) (v v_then : View) : Type 0 where
   pub outcome : Outcome
   pub presses : Presses p outcome old new v v_then
   pub hand : h_then ≡ hand_after p outcome v_then h
 
--- so it is as long as there is memory; else it is pressed at most
+-- so it is as long as there is memory; if that runs out it is pressed once at most, and of the hand nothing is said
 abbrev pub DoesPress : Bool → Press → (h h_then : Hand) → (old new : Station) → (v v_then : View) → Type 0
 DoesPress true p h h_then old new v v_then = IsPressed p h h_then old new v v_then
 DoesPress false p h h_then old new v v_then = AtMost p old new v v_then
@@ -112,14 +112,16 @@ abbrev pub StrikesBy : Bool → Option Intent → (h h_then : Hand) → (old new
 StrikesBy w (Some i) h h_then old new v v_then = Strikes w (comes_of h v i) (counted h) h_then old new v v_then
 StrikesBy w None h h_then old new v v_then = Leaves w h h_then old new v v_then
 
--- so has a command of show control that is for this desk; one for another desk is not counted
+-- so has a command of show control that is for this desk; one that presses nothing is counted, too, but for one that is
+-- for another desk
 abbrev pub StrikesSpoken : Bool → Spoken → (h h_then : Hand) → (old new : Station) → (v v_then : View) → Type 0
 StrikesSpoken w (spoken.Intent i) h h_then old new v v_then =
     Strikes w (comes_of h v i) (counted h) h_then old new v v_then
 StrikesSpoken w spoken.Elsewhere h h_then old new v v_then = Leaves w h h_then old new v v_then
 StrikesSpoken w _ h h_then old new v v_then = Leaves w (counted h) h_then old new v v_then
 
--- What one message of MIDI presses: that of the key that was struck, or of the command that was spoken.
+-- What comes of a message of MIDI: a key presses what it means by this hand and this view, a command of show control what
+-- it says, and all else presses nothing.
 abbrev pub Takes : Bool → Setting → Heard → (h h_then : Hand) → (old new : Station) → (v v_then : View) → Type 0
 Takes w s (midi.Show show) h h_then old new v v_then =
     StrikesSpoken w (spoken_to s.address show) h h_then old new v v_then
@@ -156,8 +158,8 @@ IsOfPress p shown view b = IsButton p shown view b ⊎ IsChoice p shown view b
 
 -- ---- at which byte of a device it is heard
 
--- Why a press of this button of a view is heard at a byte, after these bytes of the device, the newest first: what the
--- byte finishes after them is a message of MIDI that means it, by what the hand has done and that very view shows.
+-- Why a press of this button of a view is heard at a byte, after these bytes, the newest first: what the byte finishes
+-- after them is a message of MIDI that means it, by what some hand has done and a view shows.
 pub record IsStruckAt (s : Setting) (past : List ℕ) (byte : ℕ) (view : ℕ) (b : Button) : Type 0 where
   pub message : Heard
   pub spells : heard_at past byte ≡ Some message
@@ -175,17 +177,16 @@ pub record IsStruck (s : Setting) (view : ℕ) (b : Button) : Type 0 where
 
 -- ---- what is pressed while a device is heard
 
--- A parser has heard the bytes of a device so far.
+-- A parser has heard some bytes.
 pub record HasHeard (p : Parser) : Type 0 where
   pub past : List ℕ
   pub after : IsAfter past p
 
--- It has heard those of a device then, too: of the same, or of one that was opened since.
+-- If it has heard some, so it has then.
 pub record StillHears (p p_then : Parser) : Type 0 where
   pub still : HasHeard p → HasHeard p_then
 
--- Each press that the desk heard was struck at a byte of a device, after those before it, and the panel is set as
--- before.
+-- Each press that the desk heard was struck at some byte, and the panel is set as before.
 pub record OnlyStruck (p p_then : Player) (old new : Station) : Type 0 where
   pub struck : HasHeard p.parser → HearsFor (IsStruck p.setting) old new
   pub parser : StillHears p.parser p_then.parser

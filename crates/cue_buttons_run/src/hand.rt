@@ -73,7 +73,11 @@ impl<'a, R: Files<File = File> + Net + Clock + Eprint + AllocGlobal> Hand<'a, R>
         intent: Intent,
         wait: Option<u64>,
         port: u16,
-    ) -> Hand<'a, R> {
+    ) -> Hand<'a, R>
+        ensures intent { result.intent ≡ intent }
+        ensures station { result.desk.station ≡ desk.entry.station }
+        ensures view { result.desk.view ≡ desk.entry.view }
+    {
         Hand {
             rt,
             desk,

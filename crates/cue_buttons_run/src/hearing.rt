@@ -1,7 +1,9 @@
 //! The device that is heard, and the rounds of a real desk.
-ghost use Rattle.std.specs.Prelude.{◌≡◌, is_ok};
-ghost use Rattle.cue_buttons_run.specs.Playing.{Goes};
+ghost use Rattle.std.specs.Prelude.{◌≡◌, None, is_ok, is_some};
+ghost use Rattle.cue_buttons_run.specs.Playing.{Goes, HasListened, Hears, HearsCame, Opens, OpensIf, Rounds};
+ghost use Rattle.cue_buttons_run.specs.Playing.{Undoes, bytes_in};
 ghost use Rattle.cue_buttons_run.specs.Pressing.{OnlyStruck};
+ghost use Rattle.cue_desk_run.specs.Working.{OnlyLooks};
 
 use crate::device::{Came, Device};
 use crate::panel::Panel;
@@ -49,17 +51,48 @@ enum Silence {
     Gone(Option<io::Error>),
 }
 
+// The first so many bytes of a room; none if it has fewer.
+fn bytes_in(n: usize, room: &[u8]) -> &[u8]
+    ensures { result.now ≡ bytes_in n room.now }
+{
+    room.get(..n).unwrap_or(&[])
+}
+
+// Lets a panel hear what a reading gave into this room. Answers whether there may be more.
+fn hear_came<R: Files<File = File> + Net + Clock + AllocGlobal>(
+    panel: &mut Panel<'_, R>,
+    room: &[u8],
+    came: Came,
+) -> Result<Result<bool, Silence>, AllocError>
+    ensures { HearsCame (is_ok result) came room.now panel.old.player panel.new.player panel.old.desk.station
+        panel.new.desk.station panel.old.desk.view panel.new.desk.view }
+{
+    match came {
+        Came::Bytes(n) => {
+            panel.hear(bytes_in(n, room))?;
+            Ok(Ok(true))
+        }
+        Came::Nothing => {
+            panel.emptied();
+            Ok(Ok(false))
+        }
+        Came::Interrupted => Ok(Ok(false)),
+        Came::Ended => Ok(Err(Silence::Ended)),
+        Came::Gone(why) => Ok(Err(Silence::Gone(Some(why)))),
+    }
+}
+
 impl<'a> Ear<'a> {
     // Opens the device, if it is due.
-    #[tactic(auto, using(crate::proofs::PlayingLemmas::goes_opened, crate::proofs::PlayingLemmas::goes_same))]
     fn open<R: Files<File = File> + Net + Clock + AllocGlobal>(
         &mut self,
         rt: &R,
         panel: &mut Panel<'_, R>,
         now: u64,
     ) -> Result<(), AllocError>
-        ensures { Goes (is_ok result) panel.old.player panel.new.player panel.old.desk.station panel.new.desk.station
-            panel.old.desk.view panel.new.desk.view }
+        requires { self.old.device ≡ None }
+        ensures desk { panel.new.desk ≡ panel.old.desk }
+        ensures opens { OpensIf (is_some self.new.device) now panel.old.player panel.new.player }
     {
         let path = self.path;
         match Device::open(rt, panel.registry(), path) {
@@ -79,40 +112,29 @@ impl<'a> Ear<'a> {
     }
 
     // Reads a piece of what is there, and lets the panel hear it. Answers whether there may be more.
-    #[tactic(auto, using(crate::proofs::PlayingLemmas::goes_emptied, crate::proofs::PlayingLemmas::goes_given, crate::proofs::PlayingLemmas::goes_same))]
+    #[tactic(auto, using(crate::proofs::PlayingLemmas::hears_none, crate::proofs::PlayingLemmas::hears_came))]
     fn hear_piece<R: Files<File = File> + Net + Clock + AllocGlobal>(
         &mut self,
         panel: &mut Panel<'_, R>,
     ) -> Result<Result<bool, Silence>, AllocError>
-        ensures { Goes (is_ok result) panel.old.player panel.new.player panel.old.desk.station panel.new.desk.station
+        ensures { Hears (is_ok result) panel.old.player panel.new.player panel.old.desk.station panel.new.desk.station
             panel.old.desk.view panel.new.desk.view }
     {
         let Some(device) = &mut self.device else {
             return Ok(Ok(false));
         };
         let mut piece = [0; PIECE];
-        match device.read(&mut piece) {
-            Came::Bytes(n) => {
-                panel.hear(piece.get(..n).unwrap_or(&[]))?;
-                Ok(Ok(true))
-            }
-            Came::Nothing => {
-                panel.emptied();
-                Ok(Ok(false))
-            }
-            Came::Interrupted => Ok(Ok(false)),
-            Came::Ended => Ok(Err(Silence::Ended)),
-            Came::Gone(why) => Ok(Err(Silence::Gone(Some(why)))),
-        }
+        let came = device.read(&mut piece);
+        hear_came(panel, &piece, came)
     }
 
     // Hears what is there, up to so much.
-    #[tactic(auto, using(crate::proofs::PlayingLemmas::goes_none, crate::proofs::PlayingLemmas::goes_then))]
+    #[tactic(auto, using(crate::proofs::PlayingLemmas::hears_none, crate::proofs::PlayingLemmas::hears_then, crate::proofs::PlayingLemmas::hears_fails))]
     fn hear<R: Files<File = File> + Net + Clock + AllocGlobal>(
         &mut self,
         panel: &mut Panel<'_, R>,
     ) -> Result<Option<Silence>, AllocError>
-        ensures { Goes (is_ok result) panel.old.player panel.new.player panel.old.desk.station panel.new.desk.station
+        ensures { Hears (is_ok result) panel.old.player panel.new.player panel.old.desk.station panel.new.desk.station
             panel.old.desk.view panel.new.desk.view }
     {
         let most = if panel.is_settled() {
@@ -166,7 +188,9 @@ impl<'a> Ear<'a> {
 }
 
 // Says that the device is opened: if it is held by another program, nothing follows.
-fn say_opening<W: Write>(alloc: Global, ear: &mut Ear<'_>, writer: &mut W) -> Result<(), Ending> {
+fn say_opening<W: Write>(alloc: Global, ear: &mut Ear<'_>, writer: &mut W) -> Result<(), Ending>
+    ensures { ear.new.device ≡ ear.old.device }
+{
     if ear.is_said {
         return Ok(());
     }
@@ -177,7 +201,7 @@ fn say_opening<W: Write>(alloc: Global, ear: &mut Ear<'_>, writer: &mut W) -> Re
 }
 
 // Opens the device if it is not open, and that is due.
-#[tactic(auto, using(crate::proofs::PlayingLemmas::goes_same))]
+#[tactic(auto, using(crate::proofs::PlayingLemmas::opens_if, crate::proofs::PlayingLemmas::opens_none))]
 fn open_if_due<R: Files<File = File> + Net + Clock + AllocGlobal, W: Write>(
     rt: &R,
     ear: &mut Ear<'_>,
@@ -185,8 +209,8 @@ fn open_if_due<R: Files<File = File> + Net + Clock + AllocGlobal, W: Write>(
     now: u64,
     writer: &mut W,
 ) -> Result<(), Ending>
-    ensures { Goes (is_ok result) panel.old.player panel.new.player panel.old.desk.station panel.new.desk.station
-        panel.old.desk.view panel.new.desk.view }
+    ensures desk { panel.new.desk ≡ panel.old.desk }
+    ensures opens { Opens now panel.old.player panel.new.player }
 {
     if ear.device.is_none() && ear.tries.is_due(now) {
         say_opening(rt.alloc(), ear, writer)?;
@@ -196,7 +220,6 @@ fn open_if_due<R: Files<File = File> + Net + Clock + AllocGlobal, W: Write>(
 }
 
 // Opens the device if it is not open, and hears what is there. Answers whether it has ended.
-#[tactic(auto, using(crate::proofs::PlayingLemmas::goes_begun, crate::proofs::PlayingLemmas::goes_same, crate::proofs::PlayingLemmas::goes_then))]
 fn listen<R: Files<File = File> + Net + Clock + AllocGlobal, W: Write>(
     rt: &R,
     ear: &mut Ear<'_>,
@@ -204,7 +227,7 @@ fn listen<R: Files<File = File> + Net + Clock + AllocGlobal, W: Write>(
     now: u64,
     writer: &mut W,
 ) -> Result<bool, Ending>
-    ensures { Goes (is_ok result) panel.old.player panel.new.player panel.old.desk.station panel.new.desk.station
+    ensures { HasListened (is_ok result) panel.old.player panel.new.player panel.old.desk.station panel.new.desk.station
         panel.old.desk.view panel.new.desk.view }
 {
     open_if_due(rt, ear, panel, now, writer)?;
@@ -222,14 +245,14 @@ fn listen<R: Files<File = File> + Net + Clock + AllocGlobal, W: Write>(
 }
 
 // Hears who presses. Answers whether the device has ended.
-#[tactic(auto, using(crate::proofs::PlayingLemmas::goes_none))]
+#[tactic(auto, using(crate::proofs::PlayingLemmas::opens_none))]
 fn hear_now<R: Files<File = File> + Net + Clock + Eprint + AllocGlobal, W: Write>(
     rt: &R,
     ear: &mut Ear<'_>,
     panel: &mut Panel<'_, R>,
     writer: &mut W,
 ) -> Result<bool, Ending>
-    ensures { Goes (is_ok result) panel.old.player panel.new.player panel.old.desk.station panel.new.desk.station
+    ensures { HasListened (is_ok result) panel.old.player panel.new.player panel.old.desk.station panel.new.desk.station
         panel.old.desk.view panel.new.desk.view }
 {
     match panel.now() {
@@ -239,13 +262,12 @@ fn hear_now<R: Files<File = File> + Net + Clock + Eprint + AllocGlobal, W: Write
 }
 
 // Hears the controller and the store.
-#[tactic(auto, using(crate::proofs::PlayingLemmas::goes_looked))]
 fn look<R: Files<File = File> + Net + Clock + Eprint + AllocGlobal>(
     rt: &R,
     panel: &mut Panel<'_, R>,
 ) -> Result<(), Ending>
-    ensures { Goes (is_ok result) panel.old.player panel.new.player panel.old.desk.station panel.new.desk.station
-        panel.old.desk.view panel.new.desk.view }
+    ensures looks { OnlyLooks panel.old.desk.station panel.new.desk.station }
+    ensures player { Undoes panel.old.player panel.new.player panel.new.desk.view }
 {
     match panel.round() {
         Ok(()) => Ok(()),
@@ -271,44 +293,30 @@ fn tell<R: Files<File = File> + Net + Clock + Eprint + AllocGlobal, W: Write>(
     Ok(())
 }
 
-// The same, as a part of a round.
-#[tactic(auto, using(crate::proofs::PlayingLemmas::goes_same))]
-fn tell_on<R: Files<File = File> + Net + Clock + Eprint + AllocGlobal, W: Write>(
-    rt: &R,
-    panel: &mut Panel<'_, R>,
-    writer: &mut W,
-) -> Result<(), Ending>
-    ensures { Goes (is_ok result) panel.old.player panel.new.player panel.old.desk.station panel.new.desk.station
-        panel.old.desk.view panel.new.desk.view }
-{
-    tell(rt, panel, writer)
-}
-
 // One round: who presses is heard first. Answers whether the device has ended.
-#[tactic(auto, using(crate::proofs::PlayingLemmas::goes_then))]
 fn round<R: Files<File = File> + Net + Clock + Eprint + AllocGlobal, W: Write>(
     rt: &R,
     ear: &mut Ear<'_>,
     panel: &mut Panel<'_, R>,
     writer: &mut W,
 ) -> Result<bool, Ending>
-    ensures { Goes (is_ok result) panel.old.player panel.new.player panel.old.desk.station panel.new.desk.station
+    ensures { Rounds (is_ok result) panel.old.player panel.new.player panel.old.desk.station panel.new.desk.station
         panel.old.desk.view panel.new.desk.view }
 {
     let has_ended = hear_now(rt, ear, panel, writer)?;
     look(rt, panel)?;
-    tell_on(rt, panel, writer)?;
+    tell(rt, panel, writer)?;
     Ok(has_ended)
 }
 
 // Waits until something comes.
-#[tactic(auto, using(crate::proofs::PlayingLemmas::goes_same))]
 fn wait<R: Files<File = File> + Net + Clock + Eprint + AllocGlobal>(
     rt: &R,
     panel: &mut Panel<'_, R>,
 ) -> Result<(), Ending>
-    ensures { Goes (is_ok result) panel.old.player panel.new.player panel.old.desk.station panel.new.desk.station
-        panel.old.desk.view panel.new.desk.view }
+    ensures station { panel.new.desk.station ≡ panel.old.desk.station }
+    ensures view { panel.new.desk.view ≡ panel.old.desk.view }
+    ensures player { panel.new.player ≡ panel.old.player }
 {
     match panel.wait(PAUSE) {
         Ok(()) => Ok(()),
@@ -317,14 +325,13 @@ fn wait<R: Files<File = File> + Net + Clock + Eprint + AllocGlobal>(
 }
 
 // One round, and then it waits, unless the device has ended: it answers whether it has.
-#[tactic(auto, using(crate::proofs::PlayingLemmas::goes_then))]
 fn go_on<R: Files<File = File> + Net + Clock + Eprint + AllocGlobal, W: Write>(
     rt: &R,
     ear: &mut Ear<'_>,
     panel: &mut Panel<'_, R>,
     writer: &mut W,
 ) -> Result<bool, Ending>
-    ensures { Goes (is_ok result) panel.old.player panel.new.player panel.old.desk.station panel.new.desk.station
+    ensures { Rounds (is_ok result) panel.old.player panel.new.player panel.old.desk.station panel.new.desk.station
         panel.old.desk.view panel.new.desk.view }
 {
     let has_ended = round(rt, ear, panel, writer)?;
@@ -335,7 +342,6 @@ fn go_on<R: Files<File = File> + Net + Clock + Eprint + AllocGlobal, W: Write>(
 }
 
 // Hears until the device ends, or a signal ends it.
-#[tactic(auto, using(crate::proofs::PlayingLemmas::goes_none, crate::proofs::PlayingLemmas::goes_then))]
 fn hear_on<R: Files<File = File> + Net + Clock + Eprint + AllocGlobal, W: Write>(
     rt: &R,
     ear: &mut Ear<'_>,
@@ -354,9 +360,9 @@ fn hear_on<R: Files<File = File> + Net + Clock + Eprint + AllocGlobal, W: Write>
 }
 
 /// Hears a panel's device at this path until the device ends, or a signal ends it. It sends one message for each press
-/// that a view has lit, and by itself asks for the status alone: each press that the desk hears is one that a message
-/// of the device means. Of what happened before nothing is forgotten, and no GO that was sent.
-#[tactic(auto, using(crate::proofs::PlayingLemmas::goes_same, crate::proofs::PlayingLemmas::goes_then, crate::proofs::StruckLemmas::goes_struck))]
+/// that a view has lit, and by itself asks for the status alone. It goes on round by round: what is pressed is what a
+/// message means that was heard, by the hand that all before has made, and by the view that is shown then.
+#[tactic(auto, using(crate::proofs::PlayingLemmas::goes_from, crate::proofs::PlayingLemmas::goes_same))]
 pub fn hear_all<R: Files<File = File> + Net + Clock + Eprint + AllocGlobal, W: Write>(
     rt: &R,
     path: &str,

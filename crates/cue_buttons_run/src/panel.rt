@@ -1,6 +1,6 @@
 //! What is heard of a real desk, and what it presses, as lines of text.
 ghost use Rattle.std.specs.Prelude.{◌≡◌, [], is_ok};
-ghost use Rattle.cue_buttons_run.specs.Playing.{Gives, GivesAll, IsOpened, by_hand};
+ghost use Rattle.cue_buttons_run.specs.Playing.{Gives, GivesAll, IsOpened, begun_at, by_hand};
 ghost use Rattle.cue_buttons_run.specs.Pressing.{DoesPress, Strikes, StrikesBy, StrikesSpoken, Takes};
 ghost use Rattle.cue_midi.specs.Stream.{IsAfter};
 ghost use Rattle.cue_presses.specs.Address.{spoken_to};
@@ -66,6 +66,8 @@ impl<'a, R: Files<File = File> + Net + Clock + AllocGlobal> Panel<'a, R> {
         ensures unheard { IsAfter [] result.player.parser }
         ensures setting { result.player.setting ≡ setting }
         ensures hand { result.player.hand ≡ rule.idle }
+        ensures station { result.desk.station ≡ desk.entry.station }
+        ensures view { result.desk.view ≡ desk.entry.view }
     {
         let alloc = rt.alloc();
         Panel {
@@ -138,7 +140,7 @@ impl<'a, R: Files<File = File> + Net + Clock + AllocGlobal> Panel<'a, R> {
     /// A round begins at this moment.
     pub fn begin(&mut self, now: u64)
         ensures desk { self.new.desk ≡ self.old.desk }
-        ensures player { self.new.player ≡ by_hand (rule.begun now self.old.player.hand) self.old.player }
+        ensures player { self.new.player ≡ begun_at now self.old.player }
     {
         self.player.begin(now);
     }

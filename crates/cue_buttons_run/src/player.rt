@@ -1,6 +1,6 @@
 //! Who plays at a real desk: which key is which, the bytes so far, and the hand.
 ghost use Rattle.std.specs.Prelude.{◌≡◌, [], ◌∷◌};
-ghost use Rattle.cue_buttons_run.specs.Playing.{IsOpened, by_hand};
+ghost use Rattle.cue_buttons_run.specs.Playing.{IsOpened, begun_at, by_hand};
 ghost use Rattle.cue_midi.specs.Stream.{IsAfter};
 ghost use Rattle.cue_presses.specs.Hand as rule;
 
@@ -49,7 +49,7 @@ impl Player {
 
     /// A round begins at this moment.
     pub fn begin(&mut self, now: u64)
-        ensures { self.new ≡ by_hand (rule.begun now self.old.hand) self.old }
+        ensures { self.new ≡ begun_at now self.old }
     {
         self.hand = self.hand.begun(now);
     }

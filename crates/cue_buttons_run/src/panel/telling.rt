@@ -1,13 +1,13 @@
 //! What a panel says of its keys, of what it heard, and of what became of its presses, as lines of text.
-ghost use Rattle.std.specs.Prelude.{◌≡◌};
-ghost use Rattle.cue_buttons_run.specs.Playing.{Undoes};
+ghost use Rattle.std.specs.Prelude.{◌≡◌, ◌⊎◌, true, Some, IfSome};
+ghost use Rattle.cue_buttons_run.specs.Playing.{TellsUndone, Undoes, is_undone};
 ghost use Rattle.cue_desk_run.specs.Working.{OnlyLooks};
 
 use crate::panel::{Panel, Pending};
 use cue_board::{became_words, unsent_words};
 use cue_press_words::{key_words, trouble_words};
 use cue_presses::taps::TAP_MS;
-use cue_view::view::{Became, Unsent};
+use cue_view::view::{Became, Said, Unsent};
 use std::alloc::AllocError;
 use std::fs::{File, Files};
 use std::net::Net;
@@ -18,7 +18,9 @@ use std::{io, mem};
 const OPEN: u64 = 500;
 
 // Whether a press was not carried out, and never will be.
-fn is_undone(became: Became) -> bool {
+fn is_undone(became: Became) -> bool
+    ensures { result ≡ is_undone became }
+{
     matches!(became, Became::Refused(_) | Became::Nobody | Became::Lost)
 }
 
@@ -78,7 +80,7 @@ impl<R: Files<File = File> + Net + Clock + AllocGlobal> Panel<'_, R> {
     #[tactic(auto, using(crate::proofs::PlayingLemmas::undoes_none))]
     pub fn round(&mut self) -> io::Result<()>
         ensures looks { OnlyLooks self.old.desk.station self.new.desk.station }
-        ensures player { Undoes self.old.player self.new.player }
+        ensures player { Undoes self.old.player self.new.player self.new.desk.view }
     {
         self.desk.round()?;
         self.say_pending()?;
@@ -87,12 +89,25 @@ impl<R: Files<File = File> + Net + Clock + AllocGlobal> Panel<'_, R> {
     }
 
     // What the view says of the press with this ask; none if it says nothing of it.
-    fn became(&self, ask: u64) -> Option<Became> {
+    fn said(&self, ask: u64) -> Option<Said>
+        ensures { IfSome result (λ said. (self.now.desk.view.said ≡ Some said) ⊎ (self.now.desk.view.before ≡ Some said)) }
+    {
         let view = self.desk.view();
         match (view.said, view.before) {
-            (Some(said), _) if said.ask == ask => Some(said.became),
-            (_, Some(before)) if before.ask == ask => Some(before.became),
+            (Some(said), _) if said.ask == ask => Some(said),
+            (_, Some(before)) if before.ask == ask => Some(before),
             _ => None,
+        }
+    }
+
+    // Whether the view says that the press with this ask was not carried out, and never will be.
+    #[tactic(auto, using(crate::proofs::PlayingLemmas::tells))]
+    fn is_undone(&self, ask: u64) -> bool
+        ensures { result ≡ true → TellsUndone self.now.desk.view }
+    {
+        match self.said(ask) {
+            Some(said) => is_undone(said.became),
+            None => false,
         }
     }
 
@@ -112,7 +127,7 @@ impl<R: Files<File = File> + Net + Clock + AllocGlobal> Panel<'_, R> {
         ensures desk { self.new.desk ≡ self.old.desk }
         ensures player { self.new.player ≡ self.old.player }
     {
-        let Some(became) = self.became(pending.ask) else {
+        let Some(Said { became, .. }) = self.said(pending.ask) else {
             return Ok(Some(pending));
         };
         let is_open = matches!(became, Became::Open | Became::Unshown);
@@ -133,7 +148,7 @@ impl<R: Files<File = File> + Net + Clock + AllocGlobal> Panel<'_, R> {
     #[tactic(auto, using(crate::proofs::PlayingLemmas::undoes_none, crate::proofs::PlayingLemmas::undoes_to))]
     fn say_pending(&mut self) -> Result<(), AllocError>
         ensures desk { self.new.desk ≡ self.old.desk }
-        ensures player { Undoes self.old.player self.new.player }
+        ensures player { Undoes self.old.player self.new.player self.new.desk.view }
     {
         if let Some(before) = self.before.take() {
             self.before = self.say_press(before)?;
@@ -141,7 +156,7 @@ impl<R: Files<File = File> + Net + Clock + AllocGlobal> Panel<'_, R> {
         let Some(pending) = self.pending.take() else {
             return Ok(());
         };
-        if self.became(pending.ask).is_some_and(is_undone) {
+        if self.is_undone(pending.ask) {
             self.player.hand.passed = pending.passed;
         }
         self.pending = self.say_press(pending)?;

@@ -1,9 +1,19 @@
-use Rattle.cue_buttons_run.proofs.PlayingLemmas.{goes_fails}
+use Rattle.std.proofs.Common.{inr}
+use Rattle.cue_buttons_run.proofs.PlayingLemmas.{round_kept, rounds_fails}
 use Rattle.cue_buttons_run.proofs.hearing.go_on.Goals as goal
 
 pub returns-in_err-wait : goal.returns-in_err-wait
 returns-in_err-wait g c =
-    goes_fails c.from_residual-in_err-wait.result c.args.panel.now.player c.round.new.panel.player c.wait.new.panel.player
-    c.args.panel.now.desk.station c.round.new.panel.desk.station c.wait.new.panel.desk.station
-    c.args.panel.now.desk.view c.round.new.panel.desk.view c.wait.new.panel.desk.view c.from_residual-in_err-wait.ensures.0
-    c.in_ok-has_ended.ensures c.in_err-wait.ensures
+    rounds_fails c.from_residual-in_err-wait.result c.args.panel.now.player c.wait.new.panel.player
+    c.args.panel.now.desk.station c.wait.new.panel.desk.station c.args.panel.now.desk.view c.wait.new.panel.desk.view
+    c.from_residual-in_err-wait.ensures.0 (inr (round_kept c.args.panel.now.player c.round.new.panel.player
+    c.wait.new.panel.player c.args.panel.now.desk.station c.round.new.panel.desk.station c.wait.new.panel.desk.station
+    c.args.panel.now.desk.view c.round.new.panel.desk.view c.wait.new.panel.desk.view c.in_ok-has_ended.ensures
+    c.wait.ensures.player c.wait.ensures.station c.wait.ensures.view))
+
+pub returns-in_ok-wait : goal.returns-in_ok-wait
+returns-in_ok-wait g c =
+    round_kept c.args.panel.now.player c.round.new.panel.player c.wait.new.panel.player c.args.panel.now.desk.station
+    c.round.new.panel.desk.station c.wait.new.panel.desk.station c.args.panel.now.desk.view
+    c.round.new.panel.desk.view c.wait.new.panel.desk.view c.in_ok-has_ended.ensures c.wait.ensures.player
+    c.wait.ensures.station c.wait.ensures.view

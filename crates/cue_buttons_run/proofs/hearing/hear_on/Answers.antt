@@ -1,5 +1,10 @@
-use Rattle.cue_buttons_run.proofs.PlayingLemmas.{goes_fails}
+use Rattle.std.proofs.Common.{true}
+use Rattle.cue_buttons_run.proofs.PlayingLemmas.{goes_fails, goes_none, goes_round}
 use Rattle.cue_buttons_run.proofs.hearing.hear_on.Goals as goal
+
+pub loop-init : goal.loop-init
+loop-init g c =
+    goes_none true c.args.panel.now.player c.args.panel.now.desk.station c.args.panel.now.desk.view
 
 pub returns-in_err-go_on : goal.returns-in_err-go_on
 returns-in_err-go_on g c =
@@ -7,3 +12,15 @@ returns-in_err-go_on g c =
     c.args.panel.now.desk.station c.loop.panel.desk.station c.go_on.new.panel.desk.station c.args.panel.now.desk.view
     c.loop.panel.desk.view c.go_on.new.panel.desk.view c.from_residual.ensures.0 c.loop.invariant
     c.in_err-go_on.ensures
+
+pub returns-then-branch : goal.returns-then-branch
+returns-then-branch g c =
+    goes_round c.args.panel.now.player c.loop.panel.player c.go_on.new.panel.player c.args.panel.now.desk.station
+    c.loop.panel.desk.station c.go_on.new.panel.desk.station c.args.panel.now.desk.view c.loop.panel.desk.view
+    c.go_on.new.panel.desk.view c.loop.invariant c.in_ok-go_on.ensures
+
+pub loop-preserved : goal.loop-preserved
+loop-preserved g c =
+    goes_round c.args.panel.now.player c.loop.panel.player c.go_on.new.panel.player c.args.panel.now.desk.station
+    c.loop.panel.desk.station c.go_on.new.panel.desk.station c.args.panel.now.desk.view c.loop.panel.desk.view
+    c.go_on.new.panel.desk.view c.loop.invariant c.in_ok-go_on.ensures

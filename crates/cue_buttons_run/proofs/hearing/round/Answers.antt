@@ -1,30 +1,37 @@
-use Rattle.std.proofs.Common.{false, true}
-use Rattle.cue_buttons_run.proofs.PlayingLemmas.{goes_fails, goes_then}
+use Rattle.std.proofs.Common.{inl, inr, refl}
+use Rattle.cue_buttons_run.proofs.PlayingLemmas.{is_round, rounds_fails}
 use Rattle.cue_buttons_run.proofs.hearing.round.Goals as goal
+
+pub returns-in_err-has_ended : goal.returns-in_err-has_ended
+returns-in_err-has_ended g c =
+    rounds_fails c.from_residual.result c.args.panel.now.player c.hear_now.new.panel.player
+    c.args.panel.now.desk.station c.hear_now.new.panel.desk.station c.args.panel.now.desk.view
+    c.hear_now.new.panel.desk.view c.from_residual.ensures.0 (inl c.in_err-has_ended.ensures)
 
 pub returns-in_err-look : goal.returns-in_err-look
 returns-in_err-look g c =
-    goes_fails c.from_residual-in_err-look.result c.args.panel.now.player c.hear_now.new.panel.player
-    c.look.new.panel.player c.args.panel.now.desk.station c.hear_now.new.panel.desk.station
-    c.look.new.panel.desk.station c.args.panel.now.desk.view c.hear_now.new.panel.desk.view c.look.new.panel.desk.view
-    c.from_residual-in_err-look.ensures.0 c.in_ok-has_ended.ensures c.in_err-look.ensures
+    rounds_fails c.from_residual-in_err-look.result c.args.panel.now.player c.look.new.panel.player
+    c.args.panel.now.desk.station c.look.new.panel.desk.station c.args.panel.now.desk.view c.look.new.panel.desk.view
+    c.from_residual-in_err-look.ensures.0 (inr (is_round c.args.panel.now.player c.hear_now.new.panel.player
+    c.look.new.panel.player c.look.new.panel.player c.args.panel.now.desk.station c.hear_now.new.panel.desk.station
+    c.look.new.panel.desk.station c.look.new.panel.desk.station c.args.panel.now.desk.view
+    c.hear_now.new.panel.desk.view c.look.new.panel.desk.view c.look.new.panel.desk.view c.in_ok-has_ended.ensures
+    c.look.ensures.looks c.look.ensures.player refl refl refl))
 
-pub returns-in_err-tell_on : goal.returns-in_err-tell_on
-returns-in_err-tell_on g c =
-    goes_fails c.from_residual-in_err-tell_on.result c.args.panel.now.player c.hear_now.new.panel.player
-    c.tell_on.new.panel.player c.args.panel.now.desk.station c.hear_now.new.panel.desk.station
-    c.tell_on.new.panel.desk.station c.args.panel.now.desk.view c.hear_now.new.panel.desk.view
-    c.tell_on.new.panel.desk.view c.from_residual-in_err-tell_on.ensures.0 c.in_ok-has_ended.ensures (goes_then false
-    c.hear_now.new.panel.player c.look.new.panel.player c.tell_on.new.panel.player c.hear_now.new.panel.desk.station
-    c.look.new.panel.desk.station c.tell_on.new.panel.desk.station c.hear_now.new.panel.desk.view
-    c.look.new.panel.desk.view c.tell_on.new.panel.desk.view c.in_ok-look.ensures c.in_err-tell_on.ensures)
+pub returns-in_err-tell : goal.returns-in_err-tell
+returns-in_err-tell g c =
+    rounds_fails c.from_residual-in_err-tell.result c.args.panel.now.player c.tell.new.panel.player
+    c.args.panel.now.desk.station c.tell.new.panel.desk.station c.args.panel.now.desk.view c.tell.new.panel.desk.view
+    c.from_residual-in_err-tell.ensures.0 (inr (is_round c.args.panel.now.player c.hear_now.new.panel.player
+    c.look.new.panel.player c.tell.new.panel.player c.args.panel.now.desk.station c.hear_now.new.panel.desk.station
+    c.look.new.panel.desk.station c.tell.new.panel.desk.station c.args.panel.now.desk.view
+    c.hear_now.new.panel.desk.view c.look.new.panel.desk.view c.tell.new.panel.desk.view c.in_ok-has_ended.ensures
+    c.look.ensures.looks c.look.ensures.player c.tell.ensures.player c.tell.ensures.station c.tell.ensures.view))
 
 pub returns : goal.returns
 returns g c =
-    goes_then true c.args.panel.now.player c.hear_now.new.panel.player c.tell_on.new.panel.player
-    c.args.panel.now.desk.station c.hear_now.new.panel.desk.station c.tell_on.new.panel.desk.station
-    c.args.panel.now.desk.view c.hear_now.new.panel.desk.view c.tell_on.new.panel.desk.view c.in_ok-has_ended.ensures
-    (goes_then true c.hear_now.new.panel.player c.look.new.panel.player c.tell_on.new.panel.player
-    c.hear_now.new.panel.desk.station c.look.new.panel.desk.station c.tell_on.new.panel.desk.station
-    c.hear_now.new.panel.desk.view c.look.new.panel.desk.view c.tell_on.new.panel.desk.view c.in_ok-look.ensures
-    c.in_ok-tell_on.ensures)
+    is_round c.args.panel.now.player c.hear_now.new.panel.player c.look.new.panel.player c.tell.new.panel.player
+    c.args.panel.now.desk.station c.hear_now.new.panel.desk.station c.look.new.panel.desk.station
+    c.tell.new.panel.desk.station c.args.panel.now.desk.view c.hear_now.new.panel.desk.view c.look.new.panel.desk.view
+    c.tell.new.panel.desk.view c.in_ok-has_ended.ensures c.look.ensures.looks c.look.ensures.player
+    c.tell.ensures.player c.tell.ensures.station c.tell.ensures.view

@@ -1,9 +1,9 @@
-use Rattle.cue_buttons_run.proofs.PlayingLemmas.{goes_fails}
+use Rattle.cue_buttons_run.proofs.PlayingLemmas.{hears_fails}
 use Rattle.cue_buttons_run.proofs.hearing.Ear.hear.Goals as goal
 
 pub returns-in_err-hear_piece : goal.returns-in_err-hear_piece
 returns-in_err-hear_piece g c =
-    goes_fails c.from_residual.result c.args.panel.now.player c.loop.panel.player c.hear_piece.new.panel.player
+    hears_fails c.from_residual.result c.args.panel.now.player c.loop.panel.player c.hear_piece.new.panel.player
     c.args.panel.now.desk.station c.loop.panel.desk.station c.hear_piece.new.panel.desk.station
     c.args.panel.now.desk.view c.loop.panel.desk.view c.hear_piece.new.panel.desk.view c.from_residual.ensures.0
     c.loop.invariant c.in_err-hear_piece.ensures

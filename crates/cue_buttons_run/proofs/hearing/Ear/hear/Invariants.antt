@@ -1,9 +1,9 @@
 use Rattle.std.proofs.Common.{true}
-use Rattle.cue_buttons_run.specs.Playing.{Goes}
+use Rattle.cue_buttons_run.specs.Playing.{Hears}
 use Rattle.cue_buttons_run.proofs.hearing.Ear.hear.Given as goal
 
--- so far it went on, and each byte was taken whole
+-- each byte so far was taken whole
 abbrev pub invariant-loop : goal.invariant-loop
 invariant-loop g l =
-    Goes true l.fn.panel.player l.panel.player l.fn.panel.desk.station l.panel.desk.station l.fn.panel.desk.view
+    Hears true l.fn.panel.player l.panel.player l.fn.panel.desk.station l.panel.desk.station l.fn.panel.desk.view
     l.panel.desk.view

@@ -58,8 +58,8 @@ pub record TellsUndone (v : View) : Type 0 where
   pub told : (v.said ≡ Some said) ⊎ (v.before ≡ Some said)
   pub undone : is_undone said.became ≡ true
 
--- Where a view says that a press was not carried out, what was passed before a press may count again. Nothing else is
--- changed.
+-- Where a view says that a press was not carried out, another number may count as passed: which one, this does not say.
+-- Nothing else is changed.
 abbrev pub Undoes : (p p_then : Player) → View → Type 0
 Undoes p p_then v = (p_then ≡ p) ⊎ (TellsUndone v × (passed : Option ℕ)
     × (p_then ≡ by_hand (record p.hand { passed = passed }) p))
@@ -67,7 +67,8 @@ Undoes p p_then v = (p_then ≡ p) ⊎ (TellsUndone v × (passed : Option ℕ)
 -- ---- a byte
 
 -- what the byte finishes is taken
-abbrev pub TakesIf : Bool → Setting → Option Heard → (h h_then : Hand) → (old new : Station) → (v v_then : View) → Type 0
+abbrev pub TakesIf : Bool → Setting → Option Heard → (h h_then : Hand) → (old new : Station) → (v v_then : View)
+    → Type 0
 TakesIf w s (Some m) h h_then old new v v_then = Takes w s m h h_then old new v v_then
 TakesIf w s None h h_then old new v v_then = Leaves w h h_then old new v v_then
 

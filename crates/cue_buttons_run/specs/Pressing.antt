@@ -120,8 +120,8 @@ StrikesSpoken w (spoken.Intent i) h h_then old new v v_then =
 StrikesSpoken w spoken.Elsewhere h h_then old new v v_then = Leaves w h h_then old new v v_then
 StrikesSpoken w _ h h_then old new v v_then = Leaves w (counted h) h_then old new v v_then
 
--- What comes of a message of MIDI: a key presses what it means by this hand and this view, a command of show control what
--- it says, and all else presses nothing.
+-- What comes of a message of MIDI: a key presses what it means by this hand and this view, a command of show control
+-- what it says, and all else presses nothing.
 abbrev pub Takes : Bool → Setting → Heard → (h h_then : Hand) → (old new : Station) → (v v_then : View) → Type 0
 Takes w s (midi.Show show) h h_then old new v v_then =
     StrikesSpoken w (spoken_to s.address show) h h_then old new v v_then

@@ -33,8 +33,8 @@ pub fn copies_only_goes()
     ensures { CopiesOnlyGoes }
 {}
 
-/// A GO is said four times at most for each time that it came: between it and the next order to its device at most three
-/// copies are sent.
+/// A GO is said four times at most for each time that it came: between it and the next order to its device at most
+/// three copies are sent.
 pub fn says_four_times()
     ensures { SaysFourTimes }
 {}

@@ -90,7 +90,8 @@ impl<R: Files<File = File> + Net + Clock + AllocGlobal> Panel<'_, R> {
 
     // What the view says of the press with this ask; none if it says nothing of it.
     fn said(&self, ask: u64) -> Option<Said>
-        ensures { IfSome result (λ said. (self.now.desk.view.said ≡ Some said) ⊎ (self.now.desk.view.before ≡ Some said)) }
+        ensures { IfSome result (λ said. (self.now.desk.view.said ≡ Some said)
+            ⊎ (self.now.desk.view.before ≡ Some said)) }
     {
         let view = self.desk.view();
         match (view.said, view.before) {

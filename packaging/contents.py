@@ -8,6 +8,7 @@ from pathlib import Path
 import command_help
 import completions
 import first_evening
+import handbook
 import manuals
 
 ROOT = Path(__file__).resolve().parent.parent
@@ -66,6 +67,17 @@ def pages_of(tree, folder):
         tree.copy(ROOT / name, f"{folder}/{name}")
 
 
+def site(tree, folder):
+    """The handbook, whose pictures are those of the pages."""
+    if not shutil.which("pandoc"):
+        print("pandoc is missing: the package goes without the handbook")
+        return
+    made = handbook.made(tree.place(f"{folder}/index.html").parent)
+    for file in made.iterdir():
+        file.chmod(0o644)
+    (made / handbook.PICTURES).symlink_to("../docs/pictures")
+
+
 def units(tree):
     """The units, each service with the same hardening; the account; what they call."""
     for unit in sorted((HERE / "units").glob("cuectl*")):
@@ -107,6 +119,7 @@ def cuectl(tree, programs, version, date):
     tree.copy(ROOT / "examples" / "evening.toml", "usr/share/cuectl/")
     tree.text("usr/share/doc/cuectl/first-evening.html", first_evening.made())
     pages_of(tree, "usr/share/doc/cuectl")
+    site(tree, "usr/share/doc/cuectl/handbook")
 
 
 def device(tree, libraries, version, date):

@@ -74,8 +74,9 @@ def site(tree, folder):
         return
     made = handbook.made(tree.place(f"{folder}/index.html").parent)
     for file in made.iterdir():
+        if file.suffix == ".html":
+            file.write_text(file.read_text().replace(f'="{handbook.PICTURES}/', '="../docs/pictures/'))
         file.chmod(0o644)
-    (made / handbook.PICTURES).symlink_to("../docs/pictures")
 
 
 def units(tree):

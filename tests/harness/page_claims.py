@@ -45,8 +45,8 @@ def by_one_that_aborts(page, told, attempt, pictures):
     kinds = page.run("return view.alarms.map((alarm) => alarm.kind)")
     told.told = {"claims": {4: {"at": [(2310, 4000, "mm")]}, 8: {"why": [(attempt, STOP)], "who": ["Acme winch 2.1"]}}}
     check("why it aborted stands beside the failure", page.shows("alarms", f'it says: "{STOP}"'))
-    check("and in the list, with the attempt",
-          page.shows("says-8", f'told by the device: "{STOP}" (attempt {attempt})'))
+    check("and in the list, with the cue",
+          page.shows("says-8", f'told by the device: "{STOP}" (cue '))
     check("and a screen reader hears of it", page.waits_for(lambda: f'says: "{STOP}"' in page.run(SPOKEN)))
     if page.run("return view.live.length"):
         check("and on its card", page.shows("live", f'says: "{STOP}"'))

@@ -69,7 +69,7 @@ def gives(page, evening, cue):
     check("the card says that it is chosen", "CHOSEN" in page.text("live"))
     page.click("go")
     check("GO is dark after a GO", page.waits_for(lambda: not page.find("go").is_enabled(), 0.5))
-    check("it is said what became of it", page.shows("words", f"go {cue} "))
+    check("it is said what became of it", page.shows("words", f"GO given for cue {cue}"))
     check("it ends complete", ends(page, cue, "complete"))
 
 
@@ -211,7 +211,8 @@ def stand_by_together(page, evening, pictures):
     check("and so does NEXT", page.text("next").count("with 8.5") == 1)
     page.key("s")
     check("one key stands them all by", evening.waits_for(lambda view: sum(one["ready"] for one in view["live"]) == 3))
-    check("and that is said", page.shows("words", f"standby 10 with {', '.join(TOGETHER)}: made"))
+    check("and that is said", page.waits_for(lambda: page.text("words").startswith("STANDBY given for cue 10")
+                                            and page.text("words").endswith(f" with {', '.join(TOGETHER)}")))
     check("GO is for the first one", is_lit(page, "10"))
     if pictures:
         page.picture(pictures / "page-together.png")

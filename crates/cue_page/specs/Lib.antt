@@ -2,6 +2,7 @@ pub mod Alarms
 pub mod Buttons
 pub mod Ends
 pub mod Live
+pub mod Marks
 pub mod Network
 pub mod Page
 pub mod Said

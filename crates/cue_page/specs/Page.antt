@@ -1,5 +1,5 @@
 -- A view as JSON (RFC 8259): what the page draws.
-use Rattle.std.specs.Prelude.{ℕ, List, ◌-◌, filter, map, codes, Option, None, Some}
+use Rattle.std.specs.Prelude.{ℕ, List, ◌-◌, filter, map, codes, Option, None, Some, option_map}
 use Rattle.std.specs.List.{list_any}
 use Rattle.serde_json.specs.Data.{Data, null, boolean, number, unsigned, string, array, object, Members, member}
 use Rattle.serde_json.specs.Data.{no_members, put}
@@ -12,6 +12,7 @@ use Rattle.cue_page.specs.Alarms.{alarm_data}
 use Rattle.cue_page.specs.Buttons.{is_move, is_other}
 use Rattle.cue_page.specs.Ends.{told_data, told_or_null}
 use Rattle.cue_page.specs.Live.{attempt_data}
+use Rattle.cue_page.specs.Marks.{marks_data}
 use Rattle.cue_page.specs.Network.{contact_data}
 use Rattle.cue_page.specs.Said.{said_data, unsent_data}
 use Rattle.cue_page.specs.Stack.{next_data, number_data}
@@ -112,12 +113,15 @@ abbrev pub file_line_data : Manner → Data
 file_line_data m = elim m.told [ None ↦ null | Some told ↦ string told.now ]
 
 -- what the page gets: the view, what its numbers are called, and in what manner it is shown: in which run of the desk
--- it was made, whether some presses need a word, whether none is taken, and what is told of the show file
+-- it was made, whether some presses need a word, whether none is taken, whether a rehearsal plays the devices, when the
+-- curtain moved, and what is told of the show file
 abbrev pub page_data : Data → Manner → Data → Data
 page_data called m facts =
     object (member (codes "locked") (boolean m.is_locked)
+    (member (codes "marks") (marks_data (option_map (λ marks. marks.now) m.marks))
     (member (codes "names") called
     (member (codes "readonly") (boolean m.is_read_only)
+    (member (codes "rehearsed") (boolean m.is_rehearsed)
     (member (codes "run") (string m.run.now)
     (member (codes "told") (file_line_data m)
-    (member (codes "view") facts no_members))))))
+    (member (codes "view") facts no_members))))))))

@@ -10,9 +10,12 @@ mod buttons;
 mod called;
 mod ends;
 mod live;
+mod marks;
 mod network;
 mod said;
 mod stack;
+
+pub use marks::CurtainMark;
 
 use alarms::alarms_value;
 use buttons::{has_moves, others_value};
@@ -23,6 +26,7 @@ use cue_show_file::{Group, cue_text};
 use cue_view::view::View;
 use ends::{past_value, told_or_null};
 use live::live_value;
+use marks::marks_value;
 use network::network_value;
 use said::{said_value, unsent_value};
 use serde_json::{Map, Value, json, put};
@@ -243,6 +247,10 @@ pub struct Manner<'a> {
     pub is_read_only: bool,
     /// A line about the show file; none if there is nothing to tell.
     pub told: Option<&'a str>,
+    /// Whether a rehearsal plays the devices of the show file.
+    pub is_rehearsed: bool,
+    /// When the curtain went up and down, in order; none if the page keeps no marks.
+    pub marks: Option<&'a [CurtainMark]>,
 }
 
 // The line about the show file; null if there is none.
@@ -264,10 +272,13 @@ fn page_value(
 ) -> Result<Value, AllocError>
     ensures { IfOk result (λ v. view v ≡ page.page_data (view called.now) manner.now (view facts.now)) }
 {
-    let told = file_line_value(alloc, manner)?;
+    let (told, marks) = (
+        file_line_value(alloc, manner)?,
+        marks_value(alloc, manner.marks)?,
+    );
     json!(in alloc; {
-        "locked": manner.is_locked, "names": called, "readonly": manner.is_read_only, "run": manner.run,
-        "told": told, "view": facts
+        "locked": manner.is_locked, "marks": marks, "names": called, "readonly": manner.is_read_only,
+        "rehearsed": manner.is_rehearsed, "run": manner.run, "told": told, "view": facts
     })
 }
 

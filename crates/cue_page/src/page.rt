@@ -1,6 +1,7 @@
 //! The page itself: one text of HTML with its styles and its scripts, and nothing from anywhere else.
 mod alarms;
 mod claims;
+mod clocks;
 mod controls;
 mod drawing;
 mod elements;
@@ -10,6 +11,7 @@ mod lines;
 mod live;
 mod locking;
 mod moving;
+mod naming;
 mod pressing;
 mod settings;
 mod small;
@@ -23,6 +25,7 @@ mod windows;
 use alarms::ALARMS;
 use base64::engine::general_purpose::STANDARD;
 use claims::CLAIMS;
+use clocks::CLOCKS;
 use controls::CONTROLS;
 use drawing::DRAWING;
 use elements::ELEMENTS;
@@ -32,6 +35,7 @@ use lines::LINES;
 use live::LIVE;
 use locking::LOCKING;
 use moving::MOVING;
+use naming::NAMING;
 use pressing::PRESSING;
 use settings::SETTINGS;
 use sha2::{Digest, Sha256};
@@ -48,9 +52,9 @@ use windows::WINDOWS;
 const STYLES: [&str; 4] = [THEMES, STYLE, CONTROLS, SMALL];
 
 /// The scripts, in order: what one does at once stands in those before it.
-const SCRIPTS: [&str; 16] = [
-    ELEMENTS, WINDOWS, STACK, FINDING, LIVE, MOVING, CLAIMS, TIMES, ALARMS, GREAT, LINES, SETTINGS,
-    SOUNDING, LOCKING, DRAWING, PRESSING,
+const SCRIPTS: [&str; 18] = [
+    ELEMENTS, NAMING, WINDOWS, STACK, FINDING, LIVE, MOVING, CLAIMS, TIMES, ALARMS, GREAT, LINES, SETTINGS,
+    CLOCKS, SOUNDING, LOCKING, DRAWING, PRESSING,
 ];
 
 /// What stands before the styles.
@@ -72,7 +76,12 @@ const BODY: &str = r#"">
 <body>
 <header>
 <h1>CUEDESK</h1>
+<div id="rehearsal" role="status" hidden><b>REHEARSAL</b><span>: cuedesk rehearse plays the devices</span></div>
 <div id="mode" hidden>READ ONLY</div>
+<div id="clocks" role="group" aria-label="Clocks"><span id="wall" role="timer" aria-label="Time"></span>
+<span id="last-go" role="timer" aria-label="Last GO" hidden></span>
+<span id="act" role="timer" aria-label="Act" hidden></span>
+<button id="curtain" class="tool" type="button" hidden>Curtain up</button></div>
 <div id="ended">Last: <span id="last">no view yet</span></div>
 <div id="tools" role="group" aria-label="The page itself">
 <span id="locked" hidden>Locked</span>

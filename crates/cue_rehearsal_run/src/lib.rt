@@ -1,9 +1,11 @@
 //! The run of a rehearsal: every device of a show file at its own port. What they answer is decided by
-//! `cue_rehearsal_machine`; here are the sockets, the clock, and the words that are printed.
+//! `cue_rehearsal_machine`; here are the sockets, the clock, the words that are printed, and the sign that it runs.
 #![tactic(auto)]
 
 mod planning;
 mod playing;
+mod sign;
 
 pub use planning::{PlanPlace, knows_plan, plan_of};
 pub use playing::play;
+pub use sign::{Sighting, Sign, after_look, raise_sign, sighting_at, sign_path};

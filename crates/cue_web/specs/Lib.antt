@@ -1,2 +1,3 @@
 pub mod Admitting
+pub mod Marking
 pub mod Serving

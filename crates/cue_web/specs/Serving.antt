@@ -10,6 +10,7 @@ use Rattle.cue_request.specs.Requests.{IsCommand}
 use Rattle.cue_station.specs.declared.heard.Heard.TheVariants as heard
 use Rattle.cue_station.specs.declared.station.Station.{Station}
 use Rattle.cue_view.specs.declared.view.View.{View}
+use Rattle.cue_web.specs.Marking.{IsMarkIn}
 use Rattle.cue_web.specs.declared.connection.Asking.{Asking}
 use Rattle.cue_web.specs.declared.connection.Asking.TheVariants as asking
 use Rattle.cue_web.specs.declared.connection.Connection.{Connection}
@@ -26,9 +27,10 @@ pub record IsPressIn (identity : PageIdentity) (bytes : List ℕ) (p : Pressed) 
   pub names : body ≡ body_of p.view p.button
   pub says : p.said ≡ said_at identity.purpose word
 
--- if it asks for a press, what came is one
+-- if it asks for a press or a mark, what came is one
 abbrev pub AsksIn : PageIdentity → List ℕ → Asking → Type 0
 AsksIn identity bytes (asking.Press (Some p)) = IsPressIn identity bytes p
+AsksIn identity bytes (asking.Mark c) = IsMarkIn identity bytes c
 AsksIn identity bytes _ = Unit {0}
 
 -- The desk heard of this press once at most, as one of the view that it names.

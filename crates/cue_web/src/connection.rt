@@ -3,6 +3,7 @@ ghost use Rattle.std.specs.Prelude.{◌≡◌, ◌≤◌, false, true, length, o
 ghost use Rattle.cue_request.specs.Requests.{IsCommand, OnCommand};
 ghost use Rattle.cue_web.specs.Serving.{AsksIn, AsksOnce, IsFresh, IsPressIn, is_asking, is_here};
 
+use crate::marking::{CurtainMove, read_mark};
 use cue_request::identity::PageIdentity;
 use cue_request::lock::{Said, said_at};
 use cue_request::pressing::read_press;
@@ -63,6 +64,8 @@ pub enum Asking {
     ShowFile,
     /// That a button was pressed; none: the body is no press.
     Press(Option<Pressed>),
+    /// That the curtain moves.
+    Mark(CurtainMove),
     /// Nothing that is carried out.
     Refused(Refusal),
 }
@@ -125,7 +128,10 @@ fn asking_of(identity: &PageIdentity<'_>, input: &[u8], request: &Request<'_>) -
         Asked::Page => Asking::Page,
         Asked::Board => Asking::View,
         Asked::ShowFile => Asking::ShowFile,
-        Asked::Command(_) => Asking::Press(pressed_in(identity, input, request)),
+        Asked::Command(_) => match read_mark(request.body) {
+            Some(curtain) => Asking::Mark(curtain),
+            None => Asking::Press(pressed_in(identity, input, request)),
+        },
     }
 }
 

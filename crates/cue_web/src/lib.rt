@@ -23,7 +23,9 @@
 
 mod connection;
 mod connections;
+mod marking;
 mod pages;
 
 pub use connections::Connections;
+pub use marking::CurtainMove;
 pub use pages::{Beside, Pages};

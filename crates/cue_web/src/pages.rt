@@ -1,13 +1,15 @@
 //! What the page is answered: itself, the newest view, the show file, and the view that a press has made.
-ghost use Rattle.std.specs.Prelude.{◌≡◌, IfOk};
+ghost use Rattle.std.specs.Prelude.{◌≡◌, is_some, IfOk, None, Some};
 ghost use Rattle.cue_request.specs.Locks.{after_press, untouched, verdict_on};
+ghost use Rattle.cue_web.specs.Marking.{waiting_after};
 ghost use Rattle.cue_web.specs.Serving.{Answers, HearsOnce, HearsUnless, guard_after};
 ghost use Rattle.cue_web.specs.declared.connection.Asking.TheVariants as asking;
 
 use crate::connection::{Answer, Asking, Pressed};
+use crate::marking::CurtainMove;
 use cue_board::Names;
 use cue_desk_run::Desk;
-use cue_page::board::{Manner, view_text};
+use cue_page::board::{CurtainMark, Manner, view_text};
 use cue_page::page::{page_text, policy};
 use cue_request::answering::{Kind, NOTHING, Outcome, answer, refusal_words};
 use cue_request::identity::{PageIdentity, Purpose};
@@ -28,6 +30,12 @@ const NO_STORE: &str = "the store has not been read yet";
 
 /// What a body is answered that is no press.
 const NO_PRESS: &str = "this is no button of the page: nothing was sent";
+
+/// What a mark is answered if the page keeps none.
+const NO_MARKS: &str = "this page keeps no marks: start it with --marks";
+
+/// What a mark is answered while the one before it is not written down yet.
+const MARKING: &str = "the mark before it is not written down yet: nothing was marked";
 
 /// What a page shows beside the views of the desk.
 #[derive(Drop)]
@@ -51,6 +59,11 @@ pub struct Pages<'a> {
     beside: Beside,
     // What is told of the show file.
     told: Option<String>,
+    // Whether a rehearsal plays the devices.
+    is_rehearsed: bool,
+    // When the curtain moved, if the page keeps marks; and the move that waits to be written down.
+    marks: Option<Vec<CurtainMark>>,
+    waiting: Option<CurtainMove>,
     // The newest view as text, and its number; none is drawn yet.
     drawn: Option<u64>,
     text: String,
@@ -106,6 +119,9 @@ impl<'a> Pages<'a> {
             page,
             beside,
             told: None,
+            is_rehearsed: false,
+            marks: None,
+            waiting: None,
             drawn: None,
             text: String::new(alloc),
         })
@@ -131,6 +147,42 @@ impl<'a> Pages<'a> {
         }
     }
 
+    /// From now on this says whether a rehearsal plays the devices.
+    pub fn show_rehearsal(&mut self, is_rehearsed: bool)
+        ensures shown { self.new.is_rehearsed ≡ is_rehearsed }
+        ensures identity { self.new.identity ≡ self.old.identity }
+        ensures guard { self.new.guard ≡ self.old.guard }
+        ensures waiting { self.new.waiting ≡ self.old.waiting }
+    {
+        if self.is_rehearsed != is_rehearsed {
+            self.is_rehearsed = is_rehearsed;
+            self.drawn = None;
+        }
+    }
+
+    /// From now on these are the marks of the evening. A page that was given none keeps none.
+    pub fn put_marks(&mut self, marks: Vec<CurtainMark>)
+        ensures shown { self.new.marks ≡ Some marks.entry }
+        ensures identity { self.new.identity ≡ self.old.identity }
+        ensures guard { self.new.guard ≡ self.old.guard }
+        ensures waiting { self.new.waiting ≡ self.old.waiting }
+    {
+        self.marks = Some(marks);
+        self.drawn = None;
+    }
+
+    /// The move of the curtain that waits to be written down, once.
+    pub fn take_mark(&mut self) -> Option<CurtainMove>
+        ensures taken { result ≡ self.old.waiting }
+        ensures once { self.new.waiting ≡ None }
+        ensures identity { self.new.identity ≡ self.old.identity }
+        ensures guard { self.new.guard ≡ self.old.guard }
+    {
+        let waiting = self.waiting;
+        self.waiting = None;
+        waiting
+    }
+
     /// Where the page is.
     pub fn identity(&self) -> &PageIdentity<'a>
         ensures { result.now ≡ self.now.identity }
@@ -151,6 +203,7 @@ impl<'a> Pages<'a> {
     ) -> Result<(), AllocError>
         ensures identity { self.new.identity ≡ self.old.identity }
         ensures guard { self.new.guard ≡ self.old.guard }
+        ensures waiting { self.new.waiting ≡ self.old.waiting }
     {
         let view = desk.view();
         if self.drawn == Some(view.number) {
@@ -162,6 +215,8 @@ impl<'a> Pages<'a> {
             is_locked: matches!(self.identity.purpose, Purpose::Plays(Some(_))),
             is_read_only: matches!(self.identity.purpose, Purpose::Shows(_)),
             told: self.told.as_deref(),
+            is_rehearsed: self.is_rehearsed,
+            marks: self.marks.as_deref(),
         };
         self.text = view_text(alloc, view, &names, &manner)?;
         self.drawn = Some(view.number);
@@ -176,6 +231,7 @@ impl<'a> Pages<'a> {
     ) -> Result<String, AllocError>
         ensures identity { self.new.identity ≡ self.old.identity }
         ensures guard { self.new.guard ≡ self.old.guard }
+        ensures waiting { self.new.waiting ≡ self.old.waiting }
     {
         self.draw(desk, alloc)?;
         json_answer(alloc, Outcome::Done, self.text.as_str())
@@ -191,6 +247,7 @@ impl<'a> Pages<'a> {
         ensures hears { HearsOnce pressed.now desk.old.station desk.new.station desk.old.view desk.new.view }
         ensures identity { self.new.identity ≡ self.old.identity }
         ensures guard { self.new.guard ≡ self.old.guard }
+        ensures waiting { self.new.waiting ≡ self.old.waiting }
     {
         if desk.press(pressed.view, pressed.button) {
             self.view_answer(desk, alloc)
@@ -211,6 +268,7 @@ impl<'a> Pages<'a> {
             desk.old.station desk.new.station desk.old.view desk.new.view }
         ensures identity { self.new.identity ≡ self.old.identity }
         ensures guard { self.new.guard ≡ after_press pressed.now.button self.old.guard now pressed.now.said }
+        ensures waiting { self.new.waiting ≡ self.old.waiting }
     {
         match self.guard.judge(pressed.button, now, pressed.said) {
             Some(refusal) => refused_answer(alloc, refusal),
@@ -230,11 +288,34 @@ impl<'a> Pages<'a> {
             desk.old.view desk.new.view }
         ensures identity { self.new.identity ≡ self.old.identity }
         ensures guard { self.new.guard ≡ guard_after self.old.guard now (asking.Press press.now) }
+        ensures waiting { self.new.waiting ≡ self.old.waiting }
     {
         match press {
             Some(pressed) => self.pressed_answer(desk, alloc, pressed, now),
             None => trouble_answer(alloc, Outcome::Refused(Refusal::Unreadable), NO_PRESS),
         }
+    }
+
+    // What a mark is answered: the newest view, or why it is not written down.
+    fn mark_answer<R: Files<File = File> + Net + Clock + AllocGlobal>(
+        &mut self,
+        desk: &Desk<'_, R>,
+        alloc: Global,
+        curtain: CurtainMove,
+    ) -> Result<String, AllocError>
+        ensures waiting { self.new.waiting
+            ≡ waiting_after (is_some self.old.marks) self.old.waiting (asking.Mark curtain) }
+        ensures identity { self.new.identity ≡ self.old.identity }
+        ensures guard { self.new.guard ≡ self.old.guard }
+    {
+        if self.waiting.is_some() {
+            return trouble_answer(alloc, Outcome::Unavailable, MARKING);
+        }
+        if self.marks.is_none() {
+            return trouble_answer(alloc, Outcome::Unavailable, NO_MARKS);
+        }
+        self.waiting = Some(curtain);
+        self.view_answer(desk, alloc)
     }
 
     // The show as a show file: the one that was handed in, else that of the store.
@@ -263,12 +344,14 @@ impl<'a> Pages<'a> {
             desk.new.view }
         ensures identity { self.new.identity ≡ self.old.identity }
         ensures guard { self.new.guard ≡ guard_after self.old.guard now asking.now }
+        ensures marks { self.new.waiting ≡ waiting_after (is_some self.old.marks) self.old.waiting asking.now }
     {
         let text = match asking {
             Asking::Page => return Ok(Answer::Page),
             Asking::View => self.view_answer(desk, alloc)?,
             Asking::ShowFile => self.file_answer(desk, alloc)?,
             Asking::Press(press) => self.press_answer(desk, alloc, press, now)?,
+            Asking::Mark(curtain) => self.mark_answer(desk, alloc, *curtain)?,
             Asking::Refused(refusal) => refused_answer(alloc, *refusal)?,
         };
         Ok(Answer::Text(text))

@@ -8,6 +8,7 @@ mod beside;
 mod board;
 mod buttons;
 mod locking;
+mod marks;
 mod new;
 mod next;
 mod opening;
@@ -17,6 +18,7 @@ mod relaying;
 mod renewing;
 mod reporting;
 mod sheet;
+mod sign;
 mod web;
 
 use board::{show_board, window_of};

@@ -41,6 +41,8 @@ pub struct Web {
     pub relay: Option<String>,
     /// The file in which the alarms are kept.
     pub alarms: Option<String>,
+    /// The file of the marks of the evening, which the page shows and writes.
+    pub marks: Option<String>,
     /// The port of 127.0.0.1 at which the page is.
     pub http: u16,
     /// The port of the controller, if the command line or the environment says it.
@@ -94,6 +96,10 @@ pub(super) const WEB_COMMAND: Declared = Declared {
         Argument::Option(
             "alarms",
             "Keeps the alarms that nobody has seen in this file; with --read-only: those of the page that keeps them",
+        ),
+        Argument::Option(
+            "marks",
+            "Shows how long the act has lasted, by the marks in this file; with buttons, it writes them there, too",
         ),
         PORT_OR_FILE,
         ASKER,
@@ -231,5 +237,6 @@ pub fn web_in(alloc: Global, found: &ArgMatches<'_>) -> Result<Web, LineFault>
         file: option_in(alloc, found, "FILE")?,
         relay: option_in(alloc, found, "relay")?,
         alarms: option_in(alloc, found, "alarms")?,
+        marks: option_in(alloc, found, "marks")?,
     })
 }

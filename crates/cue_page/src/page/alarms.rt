@@ -57,6 +57,8 @@ function alarmWords(alarm) {
   if (alarm.kind === "device")
     return "device " + called(alarm.of, deviceName(alarm.of)) + " is silent"
       + owedWords("device", (one) => one === alarm.of);
+  if (alarm.kind === "clock" && cueOf(alarm.of) !== null)
+    return "the clock was put back: the ten seconds of " + namedCue(cueOf(alarm.of)) + " are over";
   return alarm.words + (BACK[alarm.kind] ? owedWords(alarm.kind, () => true) : "");
 }
 
@@ -70,12 +72,21 @@ function stillButton(device) {
   return made;
 }
 
+// One press stands a cue by again whose ten seconds passed, as long as it is the next one.
+function againButton(attempt) {
+  const told = view.failed.find((one) => one.attempt === attempt);
+  const isLate = told && told.outcome === "cancelled" && told.reason === "ten seconds passed";
+  const lit = isLate && litOf("standby", (one) => one.cue === told.cue);
+  return lit ? [button("again-" + attempt, "Stand by again", "Stand " + namedCue(told.cue) + " by again", lit)] : [];
+}
+
 function alarmLine(alarm, index) {
   const line = make("div", index ? "alarm" : "alarm loudest"), words = make("span", "", alarmWords(alarm));
   words.id = "alarm-" + index;
   line.append(words);
   const lit = alarm.kind === "failed" && litOf("seen", (one) => one.attempt === alarm.of);
-  if (lit) line.append(button("seen-" + alarm.of, "Seen", "The failure of attempt " + alarm.of + " was seen", lit));
+  if (alarm.kind === "failed") line.append(...againButton(alarm.of));
+  if (lit) line.append(button("seen-" + alarm.of, "Seen", "The failure of " + (withCue("", alarm.of) || "a cue") + " was seen", lit));
   if (alarm.kind === "moving" && !isHeld()) line.append(stillButton(alarm.of));
   return line;
 }
@@ -90,13 +101,13 @@ function showAlarms() {
   const all = alarmsNow();
   at("alarms").hidden = !all.length;
   place("alarms", () => all.map(alarmLine), JSON.stringify([all.map((one) => [one.kind, one.of]), view && view.last,
-    isHeld() || view.lit.filter((one) => one.kind === "seen")]));
+    isHeld() || view.lit.filter((one) => ["seen", "standby"].includes(one.kind))]));
   all.forEach((alarm, index) => write("alarm-" + index, alarmWords(alarm)));
 }
 
 // How the last attempt ended; in short if an alarm says it whole.
 function lastWords(last) {
-  if (!last) return "no attempt has ended yet";
+  if (!last) return "no cue has ended yet";
   const isAlarm = view.alarms.some((alarm) => alarm.kind === "failed" && alarm.of === last.attempt);
   return isAlarm ? cueWords(last) + ": " + last.outcome : endWords(last);
 }

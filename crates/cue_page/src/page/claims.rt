@@ -28,7 +28,7 @@ function saysLines(attempt) {
 }
 
 const positionWords = ({ at, goal, unit }) => "at " + at + " of " + goal + (unit ? " " + unit : "");
-const reasonWords = ({ attempt, words }) => "\"" + words + "\" (attempt " + attempt + ")";
+const reasonWords = ({ attempt, words }) => "\"" + words + "\"" + (withCue(" (", attempt) || " (an earlier cue") + ")";
 
 // All that a device told of itself.
 function claimWords({ identity, position, reason }) {

@@ -29,6 +29,8 @@ footer button span { font-size: 1rem; font-weight: 600; }
 #go:enabled { background: var(--green-fill); color: var(--on-green); box-shadow: 0 0 34px var(--glow); }
 #cancel:enabled { background: var(--chip); color: var(--text); border-color: var(--edge); }
 #cancel b { font-size: 1.2rem; }
+.rehearsed footer { border-top: 8px solid var(--amber-fill); }
+.rehearsed #go b::after { content: " rehearsal"; font-size: 1.2rem; letter-spacing: 0; }
 footer button:disabled { background: var(--off); color: var(--soft); border-color: var(--line); cursor: default; }
 button:focus-visible, input:focus-visible, #list:focus-visible { outline: 4px solid var(--focus); outline-offset: 2px; }
 #list:focus-visible { outline-offset: -4px; }

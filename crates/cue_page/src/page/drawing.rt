@@ -6,6 +6,7 @@ pub(super) const DRAWING: &str = r#"
 // What may change between two views.
 function showLit() {
   showKeys();
+  showClocks();
   showAge();
   showAlarms();
   showWords();

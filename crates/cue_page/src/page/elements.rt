@@ -7,7 +7,7 @@ const DARK = 1000, SURE = 3000, LATE = 250;
 const at = (id) => document.getElementById(id);
 const now = () => performance.now();
 let run = null, view = null, heard = 0, missed = 0, names = { cues: new Map(), devices: new Map() };
-let manner = { locked: false, readonly: false, told: null };
+let manner = { locked: false, readonly: false, told: null, rehearsed: false, marks: null };
 let sure = { press: "", until: 0 }, wasDark = true;
 const shown = {};
 
@@ -43,7 +43,7 @@ const factsOf = (cue) => names.cues.get(cue) || NO_CUE;
 const cueName = (cue) => factsOf(cue).name;
 const deviceName = (device) => names.devices.get(device) || "";
 const called = (number, name) => name ? number + " " + name : "" + number;
-const cueWords = (told) => told.cue === null ? "attempt " + told.attempt : "cue " + called(told.cue, cueName(told.cue));
+const cueWords = (told) => told.cue === null ? "an earlier cue" : "cue " + called(told.cue, cueName(told.cue));
 const withWords = (cues) => cues.length ? " with " + cues.join(", ") : "";
 // A name may have a comma: so a list of devices has semicolons.
 const devicesWords = (devices) => devices.map((device) => called(device, deviceName(device))).join("; ");

@@ -21,7 +21,7 @@ const loudest = () =>
   isDark() ? DESK : view.alarms.find((alarm) => ["silent", "other", "old"].includes(alarm.kind));
 
 // A press that is open: no other one is sent meanwhile. Else what is served and what was read differ for a moment.
-const openWords = () => view.said && view.said.kind === "open" ? view.said.press + " is open still"
+const openWords = () => view.said && view.said.kind === "open" ? pressWords(view.said.press) + " is open still"
   : "the desk is waiting until serve and the store agree";
 
 // What STANDBY of the next cue has to wait for.
@@ -94,7 +94,10 @@ function showKeys() {
 
 // The line about the show file, and in what manner the page is shown.
 function showManner() {
-  const { told, readonly, locked } = manner;
+  const { told, readonly, locked, rehearsed } = manner;
+  at("rehearsal").hidden = !rehearsed;
+  document.body.classList.toggle("rehearsed", rehearsed);
+  document.title = (rehearsed ? "REHEARSAL \u2013 " : "") + "cuedesk";
   at("told").hidden = told === null;
   write("told", told === null ? "" : told);
   document.body.classList.toggle("readonly", readonly);

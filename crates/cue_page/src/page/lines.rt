@@ -74,13 +74,7 @@ function notGiven(press, why) {
   if (press === lastGo.press) lastGo = NO_PRESS;
   if (press === lastStandby.press) lastStandby = NO_PRESS;
   expected = null;
-  say(press + ": " + why, "refused", NOTED);
-}
-
-// A press in words: STANDBY of the next cue names those that stand by together with it.
-function pressWords(press) {
-  const isNext = view.next.cue !== null && press === "standby " + view.next.cue;
-  return press + (isNext ? withWords(view.next.with) : "");
+  say(pressWords(press) + ": " + why, "refused", NOTED);
 }
 
 function noteNow() {
@@ -102,15 +96,19 @@ function followBefore() {
 function beforeWords() {
   const before = view.before;
   const isTold = before && (before.kind === "open" || (before.ask === closed.ask && now() < closed.until));
-  return isTold ? "; before it, " + before.press + ": " + before.words : "";
+  return isTold ? "; before it, " + becameWords(before, before.words) : "";
 }
+
+// A press that was sent, and what became of it, in these words.
+const becameWords = ({ press, words: told }, words) =>
+  (words === told && told === "made" && doneWords(press)) || pressWords(press) + ": " + words;
 
 // What became of the last press. That a STANDBY was made is said while its cue is seen to stand by.
 function pressLine(said) {
   const isUnseen = said.kind === "made" && said.press.startsWith("standby ")
     && (isDark() || view.alarms.some((alarm) => alarm.kind === "old"));
   const words = isUnseen ? "it was made; whether the cue still stands by cannot be seen" : said.words;
-  return [pressWords(said.press) + ": " + words + beforeWords(), isUnseen ? "over" : said.kind];
+  return [becameWords(said, words) + beforeWords(), isUnseen ? "over" : said.kind];
 }
 
 function showWords() {

@@ -24,7 +24,7 @@ function forget() {
 function askWord(press, why) {
   forget();
   waiting = press;
-  write("lock-why", why || "The show is locked. " + press + " wants its word:");
+  write("lock-why", why || "The show is locked. " + pressWords(press) + " wants its word:");
   at("lock-word").value = "";
   at("lock").hidden = false;
   at("lock-word").focus();
@@ -47,7 +47,7 @@ function showLock(isLocked) {
 at("lock").addEventListener("submit", (event) => {
   event.preventDefault();
   const press = waiting, text = at("lock-word").value;
-  if (!/^[!-~]+$/.test(text)) { askWord(press, "This is not its word. " + press + " wants it:"); return; }
+  if (!/^[!-~]+$/.test(text)) { askWord(press, "This is not its word. " + pressWords(press) + " wants it:"); return; }
   word = { text, until: now() + HELD };
   closeLock();
   send(press);

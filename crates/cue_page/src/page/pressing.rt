@@ -43,7 +43,7 @@ function recallOpen() {
   try {
     const press = sessionStorage.getItem(OPEN);
     sessionStorage.removeItem(OPEN);
-    if (press) say(press + " was open when the desk was started again: the store will show whether it is carried out",
+    if (press) say(pressWords(press) + " was open when the desk was started again: the store will show whether it is carried out",
       "open", OPEN_FOR, () => !isPressShown(press));
   } catch (error) { /* nothing was kept */ }
 }
@@ -61,7 +61,8 @@ function take(told, asked) {
   if (run !== null && told.run !== run) { loadAgain(); return; }
   const isFirst = run === null;
   run = told.run;
-  manner = { locked: told.locked, readonly: told.readonly, told: told.told };
+  manner = { locked: told.locked, readonly: told.readonly, told: told.told, rehearsed: told.rehearsed,
+    marks: told.marks };
   if (isFirst) recallAll();
   if (view && told.view.number <= view.number) return;
   view = told.view;
@@ -69,6 +70,7 @@ function take(told, asked) {
   followChoice();
   followMoving();
   followWays();
+  followGo();
   followBefore();
   takeNames(told.names);
   if (now() > sure.until) sure = { press: "", until: 0 };
@@ -80,7 +82,7 @@ async function refused(press, reply) {
   if (reply.status === 403) { loadAgain(); return; }
   const told = await reply.json();
   notGiven(press, told.words);
-  if (reply.status === LOCKED) askWord(press, told.words + ". " + press + " wants it:");
+  if (reply.status === LOCKED) askWord(press, told.words + ". " + pressWords(press) + " wants it:");
   if (reply.status === CLOSED) forget();
 }
 
@@ -97,10 +99,10 @@ function unsent(press, told) {
 
 // Reports a press of the view that is drawn. What became of it stands in the views that follow.
 async function send(press) {
-  if (isDark()) { say(press + ": not sent: the desk does not answer", "refused", NOTED); return; }
+  if (isDark()) { say(pressWords(press) + ": not sent: the desk does not answer", "refused", NOTED); return; }
   const text = wordFor(press);
   if (wantsWord(press) && text === undefined) { askWord(press); return; }
-  say(press + " \u2026", "open", NOTED);
+  say(pressWords(press) + " \u2026", "open", NOTED);
   if (press.startsWith("go ")) lastGo = { press, at: now() };
   lastStandby = press.startsWith("standby ") ? { press, at: now() } : NO_PRESS;
   expectOwn(press);

@@ -7,6 +7,12 @@ pub(super) const SMALL: &str = r#"
 .low h1, .low #live-title { display: none; }
 .low header { flex-wrap: nowrap; padding: .15rem .8rem; gap: .1rem .6rem; font-size: .9rem; }
 .low #ended, .low #told { white-space: nowrap; overflow: hidden; text-overflow: ellipsis; }
+.low #rehearsal { flex: 0 0 auto; padding: 0 .6rem; }
+.low #rehearsal span { display: none; }
+.low #tools { flex-wrap: nowrap; }
+.low #clocks { min-width: 0; overflow: hidden; flex-wrap: nowrap; }
+.slim #last-go, .narrow #wall { display: none; }
+.narrow #clocks { white-space: normal; min-width: 0; }
 .low .tool { font-size: .75rem; padding: 0 .4rem; }
 .low #told { padding: 0 .8rem; }
 .low #alarms { max-height: 24vh; }

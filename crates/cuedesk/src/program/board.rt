@@ -7,6 +7,7 @@ mod screen;
 use super::beside::{file_line, only, read_log, relay_line};
 use super::opening::open_desk;
 use super::renewing::{Begun, Renewed, begin};
+use super::sign::{REHEARSAL, SignWatch, sign_of};
 use cue_board::{Names, board_lines};
 use cue_desk::ending::Ending;
 use cue_desk_line::Watched;
@@ -70,6 +71,8 @@ struct Board<'a, R> {
     dir: &'a str,
     file: Option<ShowFile>,
     renewed: Option<Renewed<'a>>,
+    sign: Option<SignWatch>,
+    is_rehearsed: bool,
     // what is told of the show file
     told: Option<String>,
     port: u16,
@@ -85,6 +88,25 @@ impl<'a, R: Files<File = File> + Net + Clock + AllocGlobal> Board<'a, R> {
         match self.log {
             Some(path) => read_log(self.rt, path),
             None => Ok(Vec::new(self.rt.alloc())),
+        }
+    }
+
+    // Looks for the sign of a rehearsal.
+    fn look_for_sign(&mut self) -> io::Result<()> {
+        let now = self.desk.now()?;
+        if let Some(sign) = &mut self.sign {
+            self.is_rehearsed = sign.look(self.rt, now);
+        }
+        Ok(())
+    }
+
+    // That a rehearsal plays the devices, before all else, if one does.
+    fn sign_lines(&self) -> Result<Vec<String>, AllocError> {
+        let alloc = self.rt.alloc();
+        if self.is_rehearsed {
+            only(alloc, String::from_str(alloc, REHEARSAL)?)
+        } else {
+            Ok(Vec::new(alloc))
         }
     }
 
@@ -119,14 +141,16 @@ impl<'a, R: Files<File = File> + Net + Clock + AllocGlobal> Board<'a, R> {
         Ok(lines)
     }
 
-    // The lines of the newest view, in the room that these others leave, and after them the others.
+    // The lines of the newest view, in the room that these others leave: after the sign, and before the others.
     fn lines_before(&self, others: &mut Vec<String>) -> Result<Vec<String>, AllocError> {
+        let mut lines = self.sign_lines()?;
         let names = names_of(self.file.as_ref(), self.desk.together(), self.port);
         let room = match self.rows {
-            Some(rows) => Some(room_in(rows, others.len())),
+            Some(rows) => Some(room_in(rows, others.len().saturating_add(lines.len()))),
             None => None,
         };
-        let mut lines = board_lines(self.rt.alloc(), self.desk.view(), &names, room)?;
+        let mut shown = board_lines(self.rt.alloc(), self.desk.view(), &names, room)?;
+        lines.append(&mut shown)?;
         lines.append(others)?;
         Ok(lines)
     }
@@ -212,6 +236,9 @@ fn print_once<R: Files<File = File> + Net + Clock + Eprint + AllocGlobal, W: Wri
     if board.desk.view().read.is_none() {
         return Err(say_unread(board.rt, board.dir));
     }
+    if let Err(why) = board.look_for_sign() {
+        return Err(failed(board.rt, &why));
+    }
     let lines = board.all_lines()?;
     print(writer, joined(board.rt.alloc(), &lines)?.as_str())
 }
@@ -232,6 +259,7 @@ fn round<R: Files<File = File> + Net + Clock + AllocGlobal>(
     board.desk.wait(PAUSE)?;
     board.desk.round()?;
     board.renew()?;
+    board.look_for_sign()?;
     Ok(pictures.is_due(board.desk.now()?))
 }
 
@@ -294,6 +322,7 @@ fn open_board<'a, R: Files<File = File> + Net + Clock + Eprint + AllocGlobal>(
     rt: &'a R,
     watched: &'a Watched,
     rows: Option<u16>,
+    sign: Option<SignWatch>,
     begun: Begun<'a>,
     together: &'a [Group],
 ) -> Result<Board<'a, R>, Ending> {
@@ -308,6 +337,7 @@ fn open_board<'a, R: Files<File = File> + Net + Clock + Eprint + AllocGlobal>(
         Ok(desk) => desk,
         Err(ending) => {
             drop(begun);
+            drop(sign);
             return Err(ending);
         }
     };
@@ -322,6 +352,8 @@ fn open_board<'a, R: Files<File = File> + Net + Clock + Eprint + AllocGlobal>(
         dir: sources.dir,
         file,
         renewed,
+        sign,
+        is_rehearsed: false,
         told: None,
         port,
         log: watched.log.as_deref(),
@@ -337,8 +369,9 @@ pub fn show_board<R: Files<File = File> + Net + Clock + Eprint + AllocGlobal, W:
     rows: Option<u16>,
     writer: &mut W,
 ) -> Result<(), Ending> {
+    let sign = sign_of(rt.alloc(), watched.file.as_deref())?;
     let (begun, together) = begin(rt, watched.file.as_deref(), watched.port)?;
-    let mut board = open_board(rt, watched, rows, begun, &together)?;
+    let mut board = open_board(rt, watched, rows, sign, begun, &together)?;
     let shown = if rows.is_none() {
         print_once(&mut board, writer)
     } else {

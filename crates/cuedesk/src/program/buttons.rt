@@ -1,9 +1,11 @@
 //! The command `buttons`: a real desk presses over MIDI what the page would press.
 use super::opening::{groups_and_port, open_desk};
+use super::sign::{REHEARSAL, sign_of};
 use cue_buttons_run::{Panel, Setting, hear_all};
 use cue_desk::ending::Ending;
 use cue_desk_line::Buttons;
 use cue_desk_run::Sources;
+use cue_saying::say;
 use cue_show_file::Group;
 use std::fs::{File, Files};
 use std::io::{Eprint, Write};
@@ -41,6 +43,11 @@ pub fn hear_buttons<R: Files<File = File> + Net + Clock + Eprint + AllocGlobal, 
 ) -> Result<(), Ending> {
     let (together, port) = groups_and_port(rt, buttons.file.as_deref(), buttons.port)?;
     let mut panel = open_panel(rt, buttons, &together, port)?;
+    if let Some(sign) = &mut sign_of(rt.alloc(), buttons.file.as_deref())? {
+        if sign.look(rt, 0) {
+            say(rt, REHEARSAL);
+        }
+    }
     let heard = hear_all(rt, buttons.midi.as_str(), &mut panel, writer);
     drop(panel);
     heard

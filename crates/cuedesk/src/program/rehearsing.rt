@@ -2,7 +2,7 @@
 use cue_desk::ending::Ending;
 use cue_desk_line::{Rehearsal, with_flags};
 use cue_files_run::{Sound, read_sound};
-use cue_rehearsal_run::{PlanPlace, knows_plan, plan_of, play};
+use cue_rehearsal_run::{PlanPlace, knows_plan, plan_of, play, raise_sign};
 use std::fs::{File, Files};
 use std::io::{Eprint, Write};
 use std::net::Net;
@@ -22,7 +22,10 @@ fn play_file<R: Files<File = File> + Net + Clock + Eprint + AllocGlobal, W: Writ
     let mut plan = plan_of(rt, at, &sound.table)?;
     with_flags(rt.alloc(), &mut plan, &rehearsal.flags)?;
     knows_plan(rt, None, &sound.file, &plan)?;
-    play(rt, &sound.file, &plan, rehearsal.seed, writer)
+    let sign = raise_sign(rt, rehearsal.file.as_str());
+    let played = play(rt, &sound.file, &plan, rehearsal.seed, writer);
+    drop(sign);
+    played
 }
 
 /// The command `rehearse`.

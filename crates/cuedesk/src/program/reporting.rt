@@ -9,7 +9,7 @@ use cue_report::marks::Marks;
 use cue_report::{Evening, Names, Range, Told, csv, html, text};
 use cue_saying::{print, say};
 use cue_show_file::ShowFile;
-pub use marking::mark_curtain;
+pub use marking::{mark_curtain, write_mark};
 use std::alloc::{AllocError, Global};
 use std::fs::{File, Files};
 use std::io::{self, Eprint, Read, Write};

@@ -3,8 +3,10 @@ ghost use Rattle.std.specs.Prelude.{◌≡◌};
 ghost use Rattle.cue_web.specs.Serving.{OnlyAsked};
 
 use super::locking::lock_word;
+use super::marks::MarksFile;
 use super::opening::open_desk;
 use super::renewing::{Begun, Renewed, begin};
+use super::sign::{SignWatch, sign_of};
 use cue_desk::ending::Ending;
 use cue_desk_line::{PageUse, Web};
 use cue_desk_run::{AlarmsFile, Desk, Sources};
@@ -36,6 +38,8 @@ struct Server<'a, R> {
     desk: Desk<'a, R>,
     pages: Pages<'a>,
     renewed: Option<Renewed<'a>>,
+    sign: Option<SignWatch>,
+    marks: Option<MarksFile<'a>>,
     // When the last round began.
     last: u64,
 }
@@ -82,6 +86,46 @@ impl<R: Files<File = File> + Net + Clock + Eprint + AllocGlobal> Server<'_, R> {
         Ok(())
     }
 
+    // Writes the mark down that was pressed, if one was. If it cannot be written, that is said, and the page finds that
+    // it is not there.
+    fn write_mark(&mut self)
+        ensures desk { self.new.desk ≡ self.old.desk }
+        ensures identity { self.new.pages.identity ≡ self.old.pages.identity }
+        ensures guard { self.new.pages.guard ≡ self.old.pages.guard }
+    {
+        let Some(curtain) = self.pages.take_mark() else {
+            return;
+        };
+        let Some(marks) = &mut self.marks else {
+            return;
+        };
+        match marks.mark(self.rt, curtain) {
+            Ok(all) => self.pages.put_marks(all),
+            Err(why) => say(
+                self.rt,
+                format_args!("the mark cannot be written down: {why}"),
+            ),
+        }
+    }
+
+    // Looks for the sign of a rehearsal, and at the marks.
+    fn look_beside(&mut self) -> io::Result<()>
+        ensures desk { self.new.desk ≡ self.old.desk }
+        ensures identity { self.new.pages.identity ≡ self.old.pages.identity }
+        ensures guard { self.new.pages.guard ≡ self.old.pages.guard }
+    {
+        let now = self.desk.now()?;
+        if let Some(sign) = &mut self.sign {
+            self.pages.show_rehearsal(sign.look(self.rt, now));
+        }
+        if let Some(marks) = &mut self.marks {
+            if let Some(all) = marks.fresh(self.rt, now) {
+                self.pages.put_marks(all);
+            }
+        }
+        Ok(())
+    }
+
     // Looks at the world first, if this program was held up: what it knows is old, and a page would be told that it is
     // of now.
     #[tactic(auto, using(cue_web::proofs::ServeLemmas::asked_looks, cue_web::proofs::ServeLemmas::asked_none))]
@@ -111,14 +155,16 @@ impl<R: Files<File = File> + Net + Clock + Eprint + AllocGlobal> Server<'_, R> {
         Ok(is_waited_for)
     }
 
-    // Looks at the world, and at the show file.
+    // Looks at the world, and at the files beside it.
     #[tactic(auto, using(cue_web::proofs::ServeLemmas::asked_looks))]
     fn look(&mut self) -> io::Result<()>
         ensures { OnlyAsked self.old.pages.identity self.new.pages.identity self.old.pages.guard self.new.pages.guard
             self.old.desk.station self.new.desk.station }
     {
         self.desk.round()?;
-        self.renew()
+        self.renew()?;
+        self.write_mark();
+        self.look_beside()
     }
 
     // One round: who presses is heard first. Answers whether more of them wait.
@@ -193,6 +239,38 @@ fn keep_alarms<'a, R: Files<File = File> + Net + Clock + Eprint + AllocGlobal>(
     }
 }
 
+// Shows the marks of the evening, if the command line says where they are.
+fn keep_marks<'a, R: Files<File = File> + Net + Clock + Eprint + AllocGlobal>(
+    web: &'a Web,
+    server: &mut Server<'a, R>,
+) -> Result<(), Ending> {
+    let Some(path) = web.marks.as_deref() else {
+        return Ok(());
+    };
+    let mut marks = MarksFile::new(path);
+    match marks.read(server.rt) {
+        Ok(all) => {
+            server.pages.put_marks(all);
+            server.marks = Some(marks);
+            Ok(())
+        }
+        Err(why) => {
+            let path = Shown { text: path };
+            say(server.rt, format_args!("{path}: no file of marks: {why}"));
+            Err(Ending::Failed)
+        }
+    }
+}
+
+// Keeps alarms and marks where the command line says.
+fn keep_all<'a, R: Files<File = File> + Net + Clock + Eprint + AllocGlobal>(
+    web: &'a Web,
+    server: &mut Server<'a, R>,
+) -> Result<(), Ending> {
+    keep_alarms(server.rt, web, &mut server.desk)?;
+    keep_marks(web, server)
+}
+
 // Listens at this port; else why it cannot is said.
 fn listen<R: Files<File = File> + Net + Clock + Eprint + AllocGlobal>(
     rt: &R,
@@ -240,6 +318,7 @@ fn open_server<'a, R: Files<File = File> + Net + Clock + Eprint + AllocGlobal>(
     rt: &'a R,
     web: &'a Web,
     (identity, token, run): (PageIdentity<'a>, &str, String),
+    sign: Option<SignWatch>,
     begun: Begun<'a>,
     together: &'a [Group],
 ) -> Result<Server<'a, R>, Ending> {
@@ -263,11 +342,14 @@ fn open_server<'a, R: Files<File = File> + Net + Clock + Eprint + AllocGlobal>(
             desk,
             pages,
             renewed,
+            sign,
+            marks: None,
             last: 0,
         }),
         Err(ending) => {
             drop(pages);
             drop(renewed);
+            drop(sign);
             Err(ending)
         }
     }
@@ -282,6 +364,7 @@ pub fn serve_page<
 >(rt: &'a R, web: &'a Web, writer: &mut W) -> Result<(), Ending> {
     let (token, run) = (draw_token(rt)?, draw_token(rt)?);
     let word = lock_word(rt, &web.page_use)?;
+    let sign = sign_of(rt.alloc(), web.file.as_deref())?;
     let (begun, together) = begin(rt, web.file.as_deref(), web.port)?;
     let identity = PageIdentity {
         port: web.http,
@@ -289,8 +372,8 @@ pub fn serve_page<
         purpose: purpose_of(&web.page_use, word.as_deref()),
     };
     let page = (identity, token.as_str(), run);
-    let mut server = open_server(rt, web, page, begun, &together)?;
-    let served = match keep_alarms(rt, web, &mut server.desk) {
+    let mut server = open_server(rt, web, page, sign, begun, &together)?;
+    let served = match keep_all(web, &mut server) {
         Ok(()) => serve_at(&mut server, web.http, writer),
         Err(ending) => Err(ending),
     };

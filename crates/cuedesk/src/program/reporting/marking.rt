@@ -12,6 +12,23 @@ fn append<R: Files<File = File>>(rt: &R, path: &str, line: &str) -> io::Result<(
     file.write_all(line.as_bytes())
 }
 
+/// Puts a mark with the time of this machine after those of a file: its line.
+pub fn write_mark<R: Files<File = File> + Clock + AllocGlobal>(
+    rt: &R,
+    path: &str,
+    curtain: Curtain,
+) -> io::Result<String> {
+    let at = rt.since_1970()?.as_secs();
+    let marked = mark_line(rt.alloc(), Mark { at, curtain })?;
+    match append(rt, path, marked.as_str()) {
+        Ok(()) => Ok(marked),
+        Err(why) => {
+            drop(marked);
+            Err(why)
+        }
+    }
+}
+
 /// Puts a mark with the time of this machine into a file, and says it.
 pub fn mark_curtain<R: Files<File = File> + Clock + Eprint + AllocGlobal, W: Write>(
     rt: &R,
@@ -19,21 +36,8 @@ pub fn mark_curtain<R: Files<File = File> + Clock + Eprint + AllocGlobal, W: Wri
     curtain: Curtain,
     writer: &mut W,
 ) -> Result<(), Ending> {
-    let marked = match rt.since_1970() {
-        Ok(since) => mark_line(
-            rt.alloc(),
-            Mark {
-                at: since.as_secs(),
-                curtain,
-            },
-        )?,
-        Err(_) => {
-            say(rt, "the clock of this machine has no time");
-            return Err(Ending::Failed);
-        }
-    };
-    match append(rt, path, marked.as_str()) {
-        Ok(()) => print(writer, marked.as_str()),
+    match write_mark(rt, path, curtain) {
+        Ok(marked) => print(writer, marked.as_str()),
         Err(why) => {
             say(rt, format_args!("{path}: {why}"));
             Err(Ending::Failed)

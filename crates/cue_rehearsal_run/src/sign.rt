@@ -1,0 +1,117 @@
+//! The sign that a rehearsal of a show file runs, which board and page look for: a file beside the show file, locked as
+//! long as the rehearsal runs. No program that has ended holds a lock, so the sign is never out of date.
+ghost use Rattle.std.specs.Prelude.{◌≡◌, string_bytes, IfOk};
+ghost use Rattle.cue_rehearsal_run.specs.Signs as signs;
+
+use cue_saying::{Shown, say};
+use std::alloc::{AllocError, Global};
+use std::fs::{File, Files, OpenOptions, TryLockError};
+use std::io::{self, Eprint};
+
+/// How often the lock is asked for: who looks at the sign holds it for a moment.
+const MAX_TRIES: u32 = 1_000;
+
+/// What a look at a sign found.
+#[derive(Clone, Copy, Debug, PartialEq, Eq)]
+pub enum Sighting {
+    /// No rehearsal runs.
+    Down,
+    /// One runs.
+    Up,
+    /// The sign cannot be seen.
+    Unknown,
+}
+
+/// The file of the sign of this show file.
+pub fn sign_path(alloc: Global, show: &str) -> Result<String, AllocError>
+    ensures { IfOk result (λ path. string_bytes path ≡ signs.sign_of show.now) }
+{
+    format!(in alloc; "{show}.rehearsal")
+}
+
+// What the lock of the sign says.
+fn sighting_of(answer: Result<(), TryLockError>) -> Sighting
+    ensures { result ≡ signs.sighting_of answer }
+{
+    match answer {
+        Ok(()) => Sighting::Down,
+        Err(TryLockError::WouldBlock) => Sighting::Up,
+        Err(TryLockError::Error(_)) => Sighting::Unknown,
+    }
+}
+
+/// Looks at a sign: whether another program holds its lock. Many may look at once.
+pub fn sighting_at(sign: File) -> Sighting {
+    sighting_of(sign.try_lock_shared())
+}
+
+/// Whether a rehearsal runs, after a look: what cannot be seen is as it was before.
+pub fn after_look(before: bool, found: Sighting) -> bool
+    ensures { result ≡ signs.after_look before found }
+{
+    match found {
+        Sighting::Down => false,
+        Sighting::Up => true,
+        Sighting::Unknown => before,
+    }
+}
+
+/// The sign of a rehearsal: it is up until this is dropped.
+#[derive(Drop)]
+pub struct Sign {
+    // None: it could not be put up, or that of another rehearsal is.
+    _file: Option<File>,
+}
+
+// The file, which is made if it is not there.
+fn open<R: Files<File = File>>(rt: &R, alloc: Global, show: &str) -> io::Result<File> {
+    let path = sign_path(alloc, show)?;
+    let sign = OpenOptions::new()
+        .write(true)
+        .create(true)
+        .open(rt, path.as_str());
+    drop(path);
+    sign
+}
+
+// Locks it. If another rehearsal of the show file runs, its sign is up already.
+fn lock(sign: &File) -> io::Result<()> {
+    for _ in 0..MAX_TRIES {
+        match sign.try_lock() {
+            Err(TryLockError::WouldBlock) => {}
+            Err(TryLockError::Error(why)) => return Err(why),
+            Ok(()) => return Ok(()),
+        }
+    }
+    Ok(())
+}
+
+// The sign of this show file, which is up.
+fn raised<R: Files<File = File>>(rt: &R, alloc: Global, show: &str) -> io::Result<Sign> {
+    let sign = open(rt, alloc, show)?;
+    match lock(&sign) {
+        Ok(()) => Ok(Sign { _file: Some(sign) }),
+        Err(why) => {
+            drop(sign);
+            Err(why)
+        }
+    }
+}
+
+/// Puts the sign of a rehearsal up, before a device is played. If it cannot stand beside the show file, standard error
+/// says so, and the rehearsal goes on: board and page do not know of it then.
+pub fn raise_sign<R: Files<File = File> + Eprint + AllocGlobal>(rt: &R, show: &str) -> Sign {
+    match raised(rt, rt.alloc(), show) {
+        Ok(sign) => sign,
+        Err(why) => {
+            let show = Shown { text: show };
+            say(
+                rt,
+                format_args!(
+                    "no sign of this rehearsal stands beside {show}: {why}: board and page do not say that it runs"
+                ),
+            );
+            Sign { _file: None }
+        }
+    }
+}

@@ -1,0 +1,56 @@
+//! The sign that a rehearsal plays the devices of a show file, as board and page look for it.
+use cue_desk_run::{Beat, open_plain};
+use cue_rehearsal_run::{Sighting, after_look, sighting_at, sign_path};
+use std::alloc::{AllocError, Global};
+use std::fs::{File, Files};
+use std::io::ErrorKind;
+
+/// How many milliseconds lie between two looks.
+const LOOK: u64 = 500;
+
+/// What board and page say while a rehearsal runs.
+pub const REHEARSAL: &str = "REHEARSAL: cuedesk rehearse plays the devices";
+
+/// The sign of one show file.
+#[derive(Drop)]
+pub struct SignWatch {
+    path: String,
+    beats: Beat,
+    is_rehearsed: bool,
+}
+
+// What a look finds at this path. No file is no rehearsal.
+fn sighting<R: Files<File = File>>(rt: &R, path: &str) -> Sighting {
+    match open_plain(rt, path) {
+        Ok(sign) => sighting_at(sign),
+        Err(why) if why.kind() == ErrorKind::NotFound => Sighting::Down,
+        Err(_) => Sighting::Unknown,
+    }
+}
+
+impl SignWatch {
+    /// The sign of this show file. Nobody has looked yet.
+    pub fn new(alloc: Global, show: &str) -> Result<SignWatch, AllocError> {
+        Ok(SignWatch {
+            path: sign_path(alloc, show)?,
+            beats: Beat::of(LOOK),
+            is_rehearsed: false,
+        })
+    }
+
+    /// Looks at it, if a look is due at this moment: whether a rehearsal runs.
+    pub fn look<R: Files<File = File>>(&mut self, rt: &R, now: u64) -> bool {
+        if self.beats.is_due(now) {
+            self.is_rehearsed = after_look(self.is_rehearsed, sighting(rt, self.path.as_str()));
+        }
+        self.is_rehearsed
+    }
+}
+
+/// The sign of the show file, if the desk has one.
+pub fn sign_of(alloc: Global, show: Option<&str>) -> Result<Option<SignWatch>, AllocError> {
+    match show {
+        Some(show) => Ok(Some(SignWatch::new(alloc, show)?)),
+        None => Ok(None),
+    }
+}

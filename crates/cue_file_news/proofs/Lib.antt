@@ -1,0 +1,4 @@
+mod JudgeLemmas
+mod LookLemmas
+mod TakeLemmas
+mod ToldLemmas

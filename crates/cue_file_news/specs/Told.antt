@@ -1,28 +1,14 @@
 -- What is told of a show file that has changed.
-use Rattle.std.specs.Prelude.{ℕ, ◌-◌, nat_lt, Bool, true, false, List, [], ◌++◌, codes, Option, None, Some}
+use Rattle.std.specs.Prelude.{ℕ, ◌-◌, nat_lt, List, [], ◌++◌, codes, Option, None, Some}
 use Rattle.std.specs.Prelude.{if◌then◌else◌}
 use Rattle.std.specs.Fmt.{decimal}
-use Rattle.cue_file_news.specs.declared.telling.Later.{Later}
-use Rattle.cue_file_news.specs.declared.telling.Later.TheVariants as later
+use Rattle.cue_file_news.specs.declared.keeping.Later.{Later}
+use Rattle.cue_file_news.specs.declared.keeping.Later.TheVariants as later
 use Rattle.cue_file_news.specs.declared.telling.News.{News}
 use Rattle.cue_file_news.specs.declared.telling.News.TheVariants as news
 use Rattle.cue_file_news.specs.declared.telling.TheConstants.{TOLD}
 use Rattle.cue_file_news.specs.declared.telling.Trouble.{Trouble}
 use Rattle.cue_file_news.specs.declared.telling.Trouble.TheVariants as trouble
-
--- what counts only from the next start: another port, another relay
-abbrev pub later_by : Bool → Bool → Later
-later_by false false = later.Nothing
-later_by true false = later.Port
-later_by false true = later.Relay
-later_by true true = later.Both
-
--- it is told that the port counts only from the next start
-abbrev pub tells_port : Later → Bool
-tells_port later.Nothing = false
-tells_port later.Port = true
-tells_port later.Relay = false
-tells_port later.Both = true
 
 -- what follows after the words that the file was read
 abbrev pub later_words : Later → List ℕ
@@ -37,7 +23,7 @@ wrong_words None = codes "the show file has mistakes: the one before is shown"
 wrong_words (Some line) =
     codes "the show file has mistakes (line " ++ (decimal line ++ codes "): the one before is shown")
 
--- that it was read is told for ten seconds
+-- that it was read is told for ten seconds from the moment at which it was first shown
 abbrev pub read_words : ℕ → Later → ℕ → Option (List ℕ)
 read_words at l now =
     if nat_lt (now - at) TOLD then Some (codes "the show file was read again" ++ later_words l) else None
@@ -45,7 +31,8 @@ read_words at l now =
 -- what is told of its text: a mistake is told until it is mended
 abbrev pub news_words : News → ℕ → Option (List ℕ)
 news_words news.Old now = None
-news_words (news.Read at l) now = read_words at l now
+news_words (news.Taken l) now = None
+news_words (news.Shown at l) now = read_words at l now
 news_words (news.Wrong line) now = Some (wrong_words line)
 
 -- why its text cannot be had

@@ -1,39 +1,22 @@
 //! What is told of a show file that has changed.
-ghost use Rattle.std.specs.Prelude.{◌≡◌, ◌≢◌, ◌↔◌, IfOk, IsTrue, option_map, string_bytes};
+ghost use Rattle.std.specs.Prelude.{◌≡◌, IfOk, option_map, string_bytes};
 ghost use Rattle.cue_file_news.specs.Told as told;
 
-use cue_relay::Route;
+use crate::keeping::Later;
 use std::alloc::{AllocError, Global};
 
 /// How long it is told that the file was read again, in milliseconds.
 const TOLD: u64 = 10_000;
-
-/// What a desk keeps of the show file of its start, as long as it runs.
-#[derive(Debug, Drop, PartialEq, Eq)]
-pub struct Kept {
-    /// The port at which it asks the controller.
-    pub port: u16,
-    /// Where this machine is on the stage's network, and the devices there.
-    pub listen: Option<u32>,
-    pub routes: Vec<Route>,
-}
-
-/// What of a new show file counts only from the next start.
-#[derive(Clone, Copy, Debug, PartialEq, Eq)]
-pub enum Later {
-    Nothing,
-    Port,
-    Relay,
-    Both,
-}
 
 /// What has become of the text of a show file.
 #[derive(Clone, Copy, Debug, PartialEq, Eq)]
 pub enum News {
     /// It is that of the start.
     Old,
-    /// It was read again at this moment, in milliseconds of a clock that never goes back.
-    Read(u64, Later),
+    /// It is new and has no mistake, and is not shown yet.
+    Taken(Later),
+    /// It is shown since this moment, in milliseconds of a clock that never goes back.
+    Shown(u64, Later),
     /// It has mistakes, the first in this line, from 1; none if the file does not say.
     Wrong(Option<usize>),
 }
@@ -45,27 +28,6 @@ pub enum Trouble {
     Unreadable,
     /// It is not there.
     Missing,
-}
-
-// What counts only from the next start.
-fn later_by(is_port: bool, is_relay: bool) -> Later
-    ensures { result ≡ told.later_by is_port is_relay }
-{
-    match (is_port, is_relay) {
-        (false, false) => Later::Nothing,
-        (true, false) => Later::Port,
-        (false, true) => Later::Relay,
-        (true, true) => Later::Both,
-    }
-}
-
-/// What of a new show file, whose desk would keep this, counts only from the next start of a desk that keeps something
-/// else.
-pub fn later_of(kept: &Kept, fresh: &Kept) -> Later
-    ensures { IsTrue (told.tells_port result) ↔ (kept.now.port ≢ fresh.now.port) }
-{
-    let is_relay = kept.listen != fresh.listen || kept.routes != fresh.routes;
-    later_by(kept.port != fresh.port, is_relay)
 }
 
 // What follows after the words that the file was read.
@@ -92,7 +54,7 @@ fn wrong_words(alloc: Global, line: Option<usize>) -> Result<String, AllocError>
     }
 }
 
-// That the file was read then, as long as that is told.
+// That the file was read, which is shown since this moment, as long as that is told.
 fn read_words(alloc: Global, at: u64, later: Later, now: u64) -> Result<Option<String>, AllocError>
     ensures { IfOk result (λ text. option_map string_bytes text ≡ told.read_words at later now) }
 {
@@ -109,7 +71,8 @@ fn news_words(alloc: Global, news: News, now: u64) -> Result<Option<String>, All
 {
     match news {
         News::Old => Ok(None),
-        News::Read(at, later) => read_words(alloc, at, later, now),
+        News::Taken(_) => Ok(None),
+        News::Shown(at, later) => read_words(alloc, at, later, now),
         News::Wrong(line) => Ok(Some(wrong_words(alloc, line)?)),
     }
 }

@@ -6,7 +6,7 @@ mod screen;
 
 use super::beside::{file_line, only, read_log, relay_line};
 use super::opening::open_desk;
-use super::renewing::{Begun, Renewed, begin};
+use super::renewing::{Begun, Renewal, WatchedFile, begin};
 use super::sign::{REHEARSAL, SignWatch, sign_of};
 use cue_board::{Names, board_lines};
 use cue_desk::ending::Ending;
@@ -70,7 +70,7 @@ struct Board<'a, R> {
     desk: Desk<'a, R>,
     dir: &'a str,
     file: Option<ShowFile>,
-    renewed: Option<Renewed<'a>>,
+    watch: Option<WatchedFile<'a>>,
     sign: Option<SignWatch>,
     is_rehearsed: bool,
     // what is told of the show file
@@ -110,25 +110,16 @@ impl<'a, R: Files<File = File> + Net + Clock + AllocGlobal> Board<'a, R> {
         }
     }
 
-    // Looks at the show file, and shows it if it is new.
+    // Looks at the show file, and shows it if it is new. If memory is short, what is told of it stays.
     fn renew(&mut self) -> io::Result<()> {
-        let Some(renewed) = &mut self.renewed else {
+        let Some(watch) = &mut self.watch else {
             return Ok(());
         };
-        let fresh = renewed.fresh(self.rt, &self.desk)?;
-        if fresh.is_some() {
-            self.file = fresh;
+        let Renewal { file, told } = watch.renew(self.rt, &self.desk)?;
+        if file.is_some() {
+            self.file = file;
         }
-        self.tell()
-    }
-
-    // Tells of the show file. If memory is short, what is told of it stays.
-    fn tell(&mut self) -> io::Result<()> {
-        let Some(renewed) = &self.renewed else {
-            return Ok(());
-        };
-        let now = self.desk.now()?;
-        if let Ok(told) = renewed.told(self.rt.alloc(), now) {
+        if let Ok(told) = told {
             self.told = told;
         }
         Ok(())
@@ -343,7 +334,7 @@ fn open_board<'a, R: Files<File = File> + Net + Clock + Eprint + AllocGlobal>(
     };
     let Begun {
         file,
-        renewed,
+        watch,
         port,
     } = begun;
     Ok(Board {
@@ -351,7 +342,7 @@ fn open_board<'a, R: Files<File = File> + Net + Clock + Eprint + AllocGlobal>(
         desk,
         dir: sources.dir,
         file,
-        renewed,
+        watch,
         sign,
         is_rehearsed: false,
         told: None,

@@ -5,7 +5,7 @@ ghost use Rattle.cue_web.specs.Serving.{OnlyAsked};
 use super::locking::lock_word;
 use super::marks::MarksFile;
 use super::opening::open_desk;
-use super::renewing::{Begun, Renewed, begin};
+use super::renewing::{Begun, Renewal, WatchedFile, begin};
 use super::sign::{SignWatch, sign_of};
 use cue_desk::ending::Ending;
 use cue_desk_line::{PageUse, Web};
@@ -37,7 +37,7 @@ struct Server<'a, R> {
     rt: &'a R,
     desk: Desk<'a, R>,
     pages: Pages<'a>,
-    renewed: Option<Renewed<'a>>,
+    watch: Option<WatchedFile<'a>>,
     sign: Option<SignWatch>,
     marks: Option<MarksFile<'a>>,
     // When the last round began.
@@ -55,32 +55,20 @@ fn draw_token<R: RandomSource + Eprint + AllocGlobal>(rt: &R) -> Result<String, 
 }
 
 impl<R: Files<File = File> + Net + Clock + Eprint + AllocGlobal> Server<'_, R> {
-    // Looks at the show file, and shows it if it is new.
+    // Looks at the show file, and shows it if it is new. If memory is short, what is told of it stays.
     fn renew(&mut self) -> io::Result<()>
         ensures desk { self.new.desk ≡ self.old.desk }
         ensures identity { self.new.pages.identity ≡ self.old.pages.identity }
         ensures guard { self.new.pages.guard ≡ self.old.pages.guard }
     {
-        let Some(renewed) = &mut self.renewed else {
+        let Some(watch) = &mut self.watch else {
             return Ok(());
         };
-        if let Some(file) = renewed.fresh(self.rt, &self.desk)? {
+        let Renewal { file, told } = watch.renew(self.rt, &self.desk)?;
+        if let Some(file) = file {
             self.pages.put_file(file);
         }
-        self.tell()
-    }
-
-    // Tells of the show file. If memory is short, what is told of it stays.
-    fn tell(&mut self) -> io::Result<()>
-        ensures desk { self.new.desk ≡ self.old.desk }
-        ensures identity { self.new.pages.identity ≡ self.old.pages.identity }
-        ensures guard { self.new.pages.guard ≡ self.old.pages.guard }
-    {
-        let Some(renewed) = &self.renewed else {
-            return Ok(());
-        };
-        let now = self.desk.now()?;
-        if let Ok(told) = renewed.told(self.rt.alloc(), now) {
+        if let Ok(told) = told {
             self.pages.tell(told);
         }
         Ok(())
@@ -331,7 +319,7 @@ fn open_server<'a, R: Files<File = File> + Net + Clock + Eprint + AllocGlobal>(
     };
     let Begun {
         file,
-        renewed,
+        watch,
         port,
     } = begun;
     let beside = Beside { file, port, run };
@@ -341,14 +329,14 @@ fn open_server<'a, R: Files<File = File> + Net + Clock + Eprint + AllocGlobal>(
             rt,
             desk,
             pages,
-            renewed,
+            watch,
             sign,
             marks: None,
             last: 0,
         }),
         Err(ending) => {
             drop(pages);
-            drop(renewed);
+            drop(watch);
             drop(sign);
             Err(ending)
         }

@@ -1,4 +1,5 @@
 mod JudgeLemmas
 mod LookLemmas
+mod RestLemmas
 mod TakeLemmas
 mod ToldLemmas

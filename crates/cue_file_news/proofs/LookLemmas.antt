@@ -49,6 +49,7 @@ after_look old found live looks asked last trouble same told next by start past 
     news = a.news;
     trouble = told ∙ ap (λ x. trouble_found x found old.trouble) (same ∙ a.look)
         ∙ ap (λ x. trouble_found (newest_look past) found x) a.trouble;
+    lawful = a.lawful;
   },
   is_asked,
 )

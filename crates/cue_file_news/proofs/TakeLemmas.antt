@@ -54,16 +54,14 @@ none_asked asked stamp e = (λ f. no (sym e ∙ f), λ x. absurd x)
 
 pub after_reading : (old : FileWatch) (r : FileReading) (b : Became) (new : FileWatch)
     → BecomesNow old r b → KeepsReading old r b new → TakeKeeps old r new b
-after_reading old r b new h k start past a = (
-  law_after old r b start past h a,
-  record {
-    said = k.said ∙ a.said;
-    kept = ap kept_in k.kept ∙ a.kept;
-    look = k.look ∙ a.look;
-    reading = k.reading ∙ ap (λ x. if has_text b then Some r.begun else x) a.reading;
-    asked = λ stamp. none_asked new.asked stamp k.asked;
-    text = k.text ∙ ap (λ x. if has_text b then text_or x r.text else x) a.text;
-    news = k.news ∙ ap (λ x. news_after b x) a.news;
-    trouble = k.trouble ∙ ap (λ x. trouble_after b x) a.trouble;
-  },
-)
+after_reading old r b new h k start past a = record {
+  said = k.said ∙ a.said;
+  kept = ap kept_in k.kept ∙ a.kept;
+  look = k.look ∙ a.look;
+  reading = k.reading ∙ ap (λ x. if has_text b then Some r.begun else x) a.reading;
+  asked = λ stamp. none_asked new.asked stamp k.asked;
+  text = k.text ∙ ap (λ x. if has_text b then text_or x r.text else x) a.text;
+  news = k.news ∙ ap (λ x. news_after b x) a.news;
+  trouble = k.trouble ∙ ap (λ x. trouble_after b x) a.trouble;
+  lawful = (law_after old r b start past h a, a.lawful);
+}

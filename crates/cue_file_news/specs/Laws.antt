@@ -1,8 +1,9 @@
 -- The law of the watch of a show file: what holds of each turn, whatever turns came before it.
 --
--- What it cannot say: that a file system gives each change another time; that the moments are those of the clocks; and
--- what is wrong with a text in which `cue_show_file` finds a mistake.
-use Rattle.std.specs.Prelude.{◌≡◌, ◌≢◌, ℕ, List, [], ◌∷◌, ◌++◌, Option, None, Some}
+-- What it cannot say: that a file system gives each change another time; that the moments are those of the clocks; what
+-- is wrong with a text in which `cue_show_file` finds a mistake; and that names, notes and addresses of a file are
+-- those of its text, which that crate does not state.
+use Rattle.std.specs.Prelude.{◌≡◌, ◌≢◌, ℕ, Bool, true, false, List, [], ◌∷◌, ◌++◌, Option, None, Some, ⊤}
 use Rattle.std.specs.Prelude.{String, string_bytes}
 use Rattle.std.specs.declared.alloc.Global.{Global}
 use Rattle.cue_desk.specs.declared.stamps.Stamp.{Stamp}
@@ -68,9 +69,39 @@ abbrev pub KeepsLaw : Start → List Turn → FileReading → Became → Type 0
 KeepsLaw start past r b =
     ReadingBecomes (IsAsked r.begun.stamp past) (newest_text start past) start.said (kept_by start) r b
 
+-- each reading of these turns kept the law
+abbrev pub AreLawful : Start → List Turn → Type 0
+AreLawful start [] = ⊤
+AreLawful start (looked found live ∷ past) = AreLawful start past
+AreLawful start (was_read r b ∷ past) = KeepsLaw start past r b × AreLawful start past
+AreLawful start (was_shown at ∷ past) = AreLawful start past
+
 -- WHAT IS TOLD after these turns: the trouble that there is, else what became of the newest new text.
 abbrev pub told_of : List Turn → ℕ → Option (List ℕ)
 told_of past now = told_words (trouble_of past) (news_of past) now
+
+-- ---- nothing is read but at rest
+
+-- something became of it
+abbrev pub counts : Became → Bool
+counts became.Ignored = false
+counts became.Unreadable = true
+counts became.Same = true
+counts (became.Wrong line) = true
+counts (became.Taken file l) = true
+
+-- The newest turn is a look, with nothing live, that found this stamp, and the look before found it, too.
+pub record IsAtRest (stamp : Stamp) (past : List Turn) : Type 0 where
+  pub before : List Turn
+  pub looked_last : past ≡ looked (look.There stamp) false ∷ before
+  pub looked_before : newest_look before ≡ Some (look.There stamp)
+
+-- Whatever turns there are, each reading that counts came right after two looks that found what it was begun with, the
+-- last one with nothing live.
+abbrev pub ReadAtRest : Type 0
+ReadAtRest =
+    (start : Start) (later past : List Turn) (r : FileReading) (b : Became)
+    → AreLawful start (later ++ was_read r b ∷ past) → counts b ≡ true → IsAtRest r.begun.stamp past
 
 -- ---- each change is told once
 

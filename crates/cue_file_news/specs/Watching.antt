@@ -5,7 +5,7 @@ use Rattle.std.specs.declared.alloc.Global.{Global}
 use Rattle.cue_desk.specs.declared.stamps.Stamp.{Stamp}
 use Rattle.cue_show_file.specs.declared.file.ShowFile.{ShowFile}
 use Rattle.cue_file_news.specs.Keeping.{kept_in}
-use Rattle.cue_file_news.specs.Laws.{IsAsked, KeepsLaw, ReadingBecomes, told_of}
+use Rattle.cue_file_news.specs.Laws.{AreLawful, IsAsked, ReadingBecomes, told_of}
 use Rattle.cue_file_news.specs.Turns.{Start, Turn, has_text, kept_by, looked, newest_look, newest_reading, newest_text}
 use Rattle.cue_file_news.specs.Turns.{news_after, news_of, text_or, trouble_after, trouble_of, was_read, was_shown}
 use Rattle.cue_file_news.specs.declared.looking.Look.{Look}
@@ -17,7 +17,7 @@ use Rattle.cue_file_news.specs.declared.watching.FileWatch.{FileWatch}
 abbrev pub start_of : Option ℕ → ShowFile → String Global → Start
 start_of said file text = record { said = said; file = file; text = string_bytes text }
 
--- The watch of a desk that started so, after these turns.
+-- The watch of a desk that started so, after these turns: each reading kept the law.
 pub record IsAfter (start : Start) (turns : List Turn) (w : FileWatch) : Type 0 where
   pub said : w.said ≡ start.said
   pub kept : kept_in w.kept ≡ kept_by start
@@ -27,6 +27,7 @@ pub record IsAfter (start : Start) (turns : List Turn) (w : FileWatch) : Type 0 
   pub text : string_bytes w.text ≡ newest_text start turns
   pub news : w.news ≡ news_of turns
   pub trouble : w.trouble ≡ trouble_of turns
+  pub lawful : AreLawful start turns
 
 -- The contract of a look: whatever came before, it is a turn, and it asks exactly for what is to be read.
 abbrev pub LookKeeps : FileWatch → Look → Bool → FileWatch → Option Stamp → Type 0
@@ -35,11 +36,11 @@ LookKeeps old found live new asked =
     → IsAfter start (looked found live ∷ past) new
     × ((stamp : Stamp) → (asked ≡ Some stamp) ↔ IsAsked stamp (looked found live ∷ past))
 
--- The contract of a reading: whatever came before, what becomes of it keeps the law, and it is a turn.
+-- The contract of a reading: whatever came before, it is a turn, and so keeps the law.
 abbrev pub TakeKeeps : FileWatch → FileReading → FileWatch → Became → Type 0
 TakeKeeps old r new b =
     (start : Start) (past : List Turn) → IsAfter start past old
-    → KeepsLaw start past r b × IsAfter start (was_read r b ∷ past) new
+    → IsAfter start (was_read r b ∷ past) new
 
 -- The contract of a file that is shown: it is a turn.
 abbrev pub ShowKeeps : FileWatch → ℕ → FileWatch → Type 0

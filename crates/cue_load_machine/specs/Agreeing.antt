@@ -1,11 +1,13 @@
 -- Whether a status speaks of a state.
-use Rattle.std.specs.Prelude.{ℕ, ℤ, pos, ◌-◌, ◌^◌, min, Bool, true, false, ◌&&◌, List, length, Option, Some, None}
+use Rattle.std.specs.Prelude.{ℕ, ℤ, pos, ◌-◌, ◌^◌, min, Bool, true, false, ◌&&◌, if◌then◌else◌, List, [], length, map, Option}
+use Rattle.std.specs.Prelude.{Some, None}
 use Rattle.std.specs.Ordering.{int_eq}
 use Rattle.cue_show.specs.Number.{same_text}
 use Rattle.cue_exchange.specs.Outcomes.{outcome_number}
 use Rattle.cue_core.specs.declared.event.Ended.{Ended}
 use Rattle.cue_core.specs.State.{ShowState}
 use Rattle.cue_desk.specs.declared.replying.Status.{Status}
+use Rattle.cue_show.specs.Show.{ShowLists}
 
 -- it says this number
 abbrev pub is_number : ℤ → ℕ → Bool
@@ -32,3 +34,11 @@ abbrev pub agrees : Status → ShowState → Bool
 agrees status s =
     is_number status.last s.last_seq
     && (is_place status.place s.show.place && (is_number status.live (live_in s) && is_ended status s.ended))
+
+-- the show of the state that is the one which the controller serves
+abbrev pub show_in : Status → ShowState → Option ShowLists
+show_in status s = if agrees status s then Some s.show else None
+
+-- the cues that are live there; they are known only of that state
+abbrev pub live_cues : Status → ShowState → List (List ℕ)
+live_cues status s = if agrees status s then map (λ a. a.cue) s.live else []

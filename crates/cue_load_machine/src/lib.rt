@@ -27,7 +27,7 @@ mod planned;
 mod stage;
 
 pub use adding::{Entry, add_entries};
-pub use agreeing::agrees;
+pub use agreeing::{agrees, live_cues, show_in};
 pub use answering::{answers_in, status_in};
 pub use asks::{Ask, Form, Refusal};
 pub use becoming::{Became, Counts, became_of, count_answers, count_cues, count_devices};

@@ -1,18 +1,15 @@
 -- How a load ends, and what was refused.
-use Rattle.std.proofs.Common.{◌≡◌, ◌≢◌, ◌∙◌, ℕ, ◌+◌, ◌^◌, ◌-◌, min, Bool, true, false, not, List, [], ◌∷◌, length, Option}
-use Rattle.std.proofs.Common.{Some, None, refl, sym, ap, arith}
+use Rattle.std.proofs.Common.{◌≡◌, ◌≢◌, Bool, true, false, not, List, [], ◌∷◌}
+use Rattle.std.proofs.Common.{Some, None, refl, arith}
 use Rattle.cue_desk.specs.declared.answered.Answered.{Answered}
 use Rattle.cue_desk.specs.declared.answered.Answered.TheVariants as answered
 use Rattle.cue_load_machine.specs.Counts.{counted, nothing, one_more, with_answers}
 use Rattle.cue_load_machine.specs.declared.becoming.Became.TheVariants as became
 use Rattle.cue_load_machine.specs.declared.becoming.Counts.{Counts}
-use Rattle.cue_load_machine.specs.declared.stage.LoadEnd.{LoadEnd}
 use Rattle.cue_load_machine.specs.declared.stage.LoadEnd.TheVariants as end
 use Rattle.cue_loading.specs.Loaded.{is_same}
-use Rattle.cue_show_file.specs.declared.mistake.Subject.{Subject}
-use Rattle.cue_load_words.specs.Endings.{ending_of, ending_of_machine, some_refused}
+use Rattle.cue_load_words.specs.Endings.{ending_of, some_refused}
 use Rattle.cue_load_words.specs.Laws.{DoneIsLoaded, RefusedIsCounted, RefusedIsNamed, SilenceIsNoSuccess}
-use Rattle.cue_load_words.specs.Telling.{refusals}
 
 done_by : (r d : Bool) → ending_of r (not d) ≡ None → (r ≡ false) × (d ≡ true)
 done_by true d e = cc

@@ -3,8 +3,8 @@
 //!
 //! A line is a value, `Said` or `Printed`; its text is stated byte for byte (`specs/Words.antt`, `specs/Counted.antt`,
 //! `specs/LiveCues.antt`). Which lines are said of what became of a load is `specs/Telling.antt`, how the command ends
-//! `specs/Endings.antt`, what a copy has `specs/Copied.antt`, and how it is named `specs/Copies.antt`. What a person may
-//! rely on is in `laws`.
+//! `specs/Endings.antt`, what a copy has `specs/Copied.antt`, and how it is named `specs/Copies.antt`. What a person
+//! may rely on is in `laws`.
 //!
 //! Why it is so:
 //! - Status 0 says that nothing was refused and, if the folder of the store is known, that the store is what the file

@@ -16,7 +16,7 @@
 //! - What the file does not have stays, and is named, until somebody says `--exact`: a cue may have been put there by
 //!   hand.
 //!
-//! Only tested: how many steps a plan has, that each difference is named, and for which cues to wait.
+//! Only tested: how many steps a plan has, and that each difference is named.
 #![tactic(auto)]
 
 mod comparing;
@@ -27,7 +27,6 @@ mod planning;
 mod step;
 mod steps;
 mod trial;
-mod waiting;
 mod wanted;
 
 pub use comparing::{Difference, differences};
@@ -35,4 +34,3 @@ pub use manner::Manner;
 pub use planning::plan;
 pub use step::Step;
 pub use trial::after;
-pub use waiting::live_words;

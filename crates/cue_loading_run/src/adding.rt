@@ -1,14 +1,16 @@
 //! What a show file has is added, and the store is compared with it, if its folder is known.
-use crate::differing::Compared;
-use crate::loading::Loading;
+ghost use Rattle.std.specs.Prelude.{◌≡◌, IfOk, None};
+ghost use Rattle.cue_load_machine.specs.Answering.{AreAnswers};
+ghost use Rattle.cue_load_machine.specs.Steps.{told_of};
+
+use crate::loading::{Loading, done_by};
 use crate::progress::Progress;
 use cue_desk::answered::Answered;
 use cue_desk::ending::Ending;
-use cue_load_machine::{
-    Counts, Entry, LoadEnd, LoadMachine, add_entries, answers_in, changes_stored, comes_late,
-    count_answers,
+use cue_load_machine::{Entry, LoadEnd, LoadMachine, add_entries, answers_in, comes_late};
+use cue_load_words::{
+    Kind, Printed, Said, added_line, copied_of, ending_of, lines_of_refusals, some_refused,
 };
-use cue_loading::differences;
 use cue_show::Show;
 use cue_show_file::ShowFile;
 use std::fs::{File, Files};
@@ -25,18 +27,22 @@ struct Added {
 }
 
 impl<'a, R: Eprint + AllocGlobal> Loading<'a, R> {
-    // What became of these, once the machine that adds them is over; else to what nobody replied is on standard error.
+    // What became of these, as its own reply says of each, once the machine that adds them is over; else to what nobody
+    // replied is said.
     fn answers_of<E: Entry>(
         &self,
         machine: &LoadMachine,
         entries: &[E],
-    ) -> Result<Vec<Answered>, Ending> {
+    ) -> Result<Vec<Answered>, Ending>
+        ensures { IfOk result (λ answers.
+            AreAnswers (told_of machine.now.asks.items machine.now.answers.items) answers.items) }
+    {
         let told = machine.told(self.alloc())?;
         match answers_in(self.alloc(), &told, entries.len())? {
             Some(answers) => Ok(answers),
             None => {
                 if let Some(entry) = entries.get(machine.done()) {
-                    self.say_unanswered(entry.subject());
+                    self.say(&Said::Unanswered(entry.subject()));
                 }
                 Err(Ending::Silent)
             }
@@ -49,24 +55,10 @@ impl<'a, R: Eprint + AllocGlobal> Loading<'a, R> {
         entries: &[E],
         answers: &[Answered],
         progress: &mut Progress<'_, W>,
-    ) {
-        for (entry, answered) in entries.iter().zip(answers) {
-            if let Answered::Refused(code) = answered {
-                progress.clear();
-                self.say_refused(entry.subject(), *code);
-            }
-        }
-    }
-
-    // Says that the store was not compared with the file, and whether its order may be another one.
-    fn tell_uncompared<W: Write>(
-        &self,
-        comes_late: bool,
-        progress: &mut Progress<'_, W>,
     ) -> Result<(), Ending> {
-        progress.print(self.uncompared())?;
-        if comes_late {
-            self.say_other_order();
+        for said in &lines_of_refusals(self.alloc(), entries, answers)? {
+            progress.clear();
+            self.say(said);
         }
         Ok(())
     }
@@ -81,12 +73,11 @@ impl<'a, R: Files<File = File> + Net + Clock + Eprint + AllocGlobal> Loading<'a,
         progress: &mut Progress<'_, W>,
     ) -> Result<(), Ending> {
         let stored = self.stored(dir)?;
-        let found = differences(self.alloc(), file, &stored)?;
-        if !changes_stored(self.what.manner, &stored, &found) {
+        let copied = copied_of(self.alloc(), self.what.manner, file, &stored, self.port)?;
+        if !copied.is_wanted {
             return Ok(());
         }
-        let text = self.text_of(&stored)?;
-        let mut machine = LoadMachine::copying(self.alloc(), text)?;
+        let mut machine = LoadMachine::copying(self.alloc(), copied.text)?;
         self.carry_out(&mut machine, progress)
     }
 
@@ -116,16 +107,14 @@ impl<'a, R: Files<File = File> + Net + Clock + Eprint + AllocGlobal> Loading<'a,
         progress: &mut Progress<'_, W>,
     ) -> Result<Added, Ending> {
         let devices = self.add_each(&file.devices, progress)?;
-        self.tell_refused(&file.devices, &devices, progress);
+        self.tell_refused(&file.devices, &devices, progress)?;
         let cues = self.add_each(&file.cues, progress)?;
-        self.tell_refused(&file.cues, &cues, progress);
-        let of_devices = count_answers(Counts::NONE, &devices);
-        let of_cues = count_answers(Counts::NONE, &cues);
+        self.tell_refused(&file.cues, &cues, progress)?;
         progress.clear();
-        progress.print(self.added_line("devices", of_devices))?;
-        progress.print(self.added_line("cues", of_cues))?;
+        progress.print(&added_line(Kind::Devices, &devices), &self.about())?;
+        progress.print(&added_line(Kind::Cues, &cues), &self.about())?;
         Ok(Added {
-            is_refused: of_devices.refused > 0 || of_cues.refused > 0,
+            is_refused: some_refused(&devices) || some_refused(&cues),
             comes_late: comes_late(&cues),
         })
     }
@@ -137,14 +126,17 @@ impl<'a, R: Files<File = File> + Net + Clock + Eprint + AllocGlobal> Loading<'a,
         file: &Show,
         comes_late: bool,
         progress: &mut Progress<'_, W>,
-    ) -> Result<bool, Ending> {
-        match self.what.dir {
-            Some(dir) => self.compare(Compared::added(self.what.path, dir), file),
-            None => {
-                self.tell_uncompared(comes_late, progress)?;
-                Ok(comes_late)
-            }
+    ) -> Result<bool, Ending>
+        ensures { self.now.what.dir ≡ None → IfOk result (λ differs. differs ≡ comes_late) }
+    {
+        if let Some(dir) = self.what.dir {
+            return self.compare(true, dir, file);
         }
+        progress.print(&Printed::NotCompared, &self.about())?;
+        if comes_late {
+            self.say(&Said::OtherOrder);
+        }
+        Ok(comes_late)
     }
 
     /// Adds what the file has. If the folder of the store is known, what it had is kept before, and it is compared with
@@ -161,10 +153,7 @@ impl<'a, R: Files<File = File> + Net + Clock + Eprint + AllocGlobal> Loading<'a,
             self.keep_stored(dir, show, &mut progress)?;
         }
         let added = self.add(file, &mut progress)?;
-        if self.differs(show, added.comes_late, &mut progress)? || added.is_refused {
-            Err(Ending::Refused)
-        } else {
-            Ok(())
-        }
+        let differs = self.differs(show, added.comes_late, &mut progress)?;
+        done_by(ending_of(added.is_refused, differs))
     }
 }

@@ -1,22 +1,14 @@
 //! What the store had before a load changes it is kept as a show file, beside the one that is loaded.
+ghost use Rattle.std.specs.Prelude.{◌≡◌, IfOk, true};
+ghost use Rattle.std.specs.Fs.{asks_create_new};
+ghost use Rattle.cue_loading_run.specs.Kept.{IsBeside};
+
 use crate::loading::Loading;
 use crate::progress::Progress;
 use cue_desk::ending::Ending;
-use cue_saying::{Shown, say};
-use cue_show::Show;
-use cue_show_file::{of_show, written};
-use std::alloc::{AllocError, Global};
+use cue_load_words::{Attempt, Keeping, MAX_KEPT, Said, kept_name, next_of, stem_of};
 use std::fs::{self, File, Files, OpenOptions};
 use std::io::{self, Eprint, ErrorKind, Write};
-
-/// What the name of such a file ends with.
-const KEPT: &str = ".before";
-
-/// The ending of a show file.
-const TOML: &str = ".toml";
-
-/// How many such files may stand beside a show file.
-const MAX_KEPT: u32 = 999;
 
 /// What became of a copy.
 #[derive(Drop)]
@@ -27,38 +19,18 @@ pub enum Kept {
     Full,
 }
 
-// Whether these are the signs that stand after the name of a file of before: none, or a number.
-fn is_turn(text: &str) -> bool {
-    match text.strip_prefix("-") {
-        Some(number) => number.chars().all(|c| c.is_ascii_digit()),
-        None => text.is_empty(),
-    }
-}
-
-// The path of a show file without its ending; of what was kept, that of the show file beside which it stands.
-fn stem_of(path: &str) -> &str {
-    let stem = path.strip_suffix(TOML).unwrap_or(path);
-    match stem.rsplit_once(KEPT) {
-        Some((first, turn)) if is_turn(turn) => first,
-        _ => stem,
-    }
-}
-
-// The path of what is kept, with this number.
-fn kept_path(alloc: Global, stem: &str, number: u32) -> Result<String, AllocError> {
-    if number == 1 {
-        format!(in alloc; "{stem}{KEPT}{TOML}")
-    } else {
-        format!(in alloc; "{stem}{KEPT}-{number}{TOML}")
-    }
+// How a copy is opened: only if nothing stands there.
+fn as_new() -> OpenOptions
+    ensures { asks_create_new result ≡ true }
+{
+    let mut options = OpenOptions::new();
+    options.write(true).create_new(true);
+    options
 }
 
 // Writes a new file. One that could not be written whole is taken away again: it was not there before.
 fn write_new<R: Files<File = File>>(rt: &R, path: &str, text: &[u8]) -> io::Result<()> {
-    let mut file = OpenOptions::new()
-        .write(true)
-        .create_new(true)
-        .open(rt, path)?;
+    let mut file = as_new().open(rt, path)?;
     let written = file.write_all(text);
     if written.is_err() {
         let _ = fs::remove_file(rt, path);
@@ -67,120 +39,61 @@ fn write_new<R: Files<File = File>>(rt: &R, path: &str, text: &[u8]) -> io::Resu
     written
 }
 
-// Whether the file is this text.
-fn is_text<R: Files<File = File> + AllocGlobal>(rt: &R, path: &str, text: &[u8]) -> bool {
+// What stands in a file, which is there, beside this text. One that cannot be read is another one.
+fn found_in<R: Files<File = File> + AllocGlobal>(rt: &R, path: &str, text: &[u8]) -> Attempt {
     match fs::read_to_string(rt, path) {
-        Ok(other) => other.as_bytes() == text,
-        Err(_) => false,
+        Ok(other) if other.as_bytes() == text => Attempt::HasSame,
+        _ => Attempt::HasOther,
     }
 }
 
-// Keeps the text in this file if that is not there, or has it already; whether it does.
-fn keep_in<R: Files<File = File> + AllocGlobal>(
+// Keeps the text in this file, if nothing stands there.
+fn attempt<R: Files<File = File> + AllocGlobal>(
     rt: &R,
     path: &str,
     text: &[u8],
-) -> io::Result<bool> {
+) -> io::Result<Attempt> {
     match write_new(rt, path, text) {
-        Ok(()) => Ok(true),
+        Ok(()) => Ok(Attempt::Written),
         Err(why) if why.kind() != ErrorKind::AlreadyExists => Err(why),
-        Err(_) => Ok(is_text(rt, path, text)),
+        Err(_) => Ok(found_in(rt, path, text)),
     }
 }
 
-// Keeps the text in the file with this number, if it can be that one: its path.
-fn keep_at<R: Files<File = File> + AllocGlobal>(
-    rt: &R,
-    stem: &str,
-    number: u32,
-    text: &[u8],
-) -> io::Result<Option<String>> {
-    let path = kept_path(rt.alloc(), stem, number)?;
-    match keep_in(rt, path.as_str(), text) {
-        Ok(true) => Ok(Some(path)),
-        Ok(false) => {
-            drop(path);
-            Ok(None)
-        }
-        Err(why) => {
-            drop(path);
-            Err(why)
-        }
-    }
-}
-
-/// Keeps the text beside the show file of this path, in the first file that has it already, or that is not there. No file
-/// is written over.
+/// Keeps the text beside the show file of this path, in the first file that has it already, or that is not there. No
+/// file is written over.
 pub fn keep_beside<R: Files<File = File> + AllocGlobal>(
     rt: &R,
     path: &str,
     text: &[u8],
-) -> io::Result<Kept> {
-    let stem = stem_of(path);
-    for number in 1..=MAX_KEPT {
-        if let Some(path) = keep_at(rt, stem, number, text)? {
-            return Ok(Kept::In(path));
+) -> io::Result<Kept>
+    ensures { IfOk result (λ kept. IsBeside path.now kept) }
+{
+    let mut number = 1;
+    for _ in 0..MAX_KEPT {
+        let name = kept_name(rt.alloc(), stem_of(path), number)?;
+        match next_of(number, attempt(rt, name.as_str(), text)?) {
+            Keeping::Kept => return Ok(Kept::In(name)),
+            Keeping::Next(next) => number = next,
+            Keeping::Full => return Ok(Kept::Full),
         }
     }
     Ok(Kept::Full)
 }
 
-// What the store has, as a show file for the controller at this port.
-fn file_of(alloc: Global, stored: &Show, port: u16) -> Result<String, AllocError> {
-    let mut file = of_show(alloc, stored)?;
-    file.port = Some(port);
-    let text = written(alloc, &file);
-    drop(file);
-    text
-}
-
-// The same, after a line that says what it is.
-fn text_of(alloc: Global, stored: &Show, port: u16) -> Result<String, AllocError> {
-    let text = file_of(alloc, stored, port)?;
-    let text = text.as_str();
-    format!(in alloc; "# What the store had before a load. `load --exact` takes it back.\n{text}")
-}
-
 impl<'a, R: Eprint + AllocGlobal> Loading<'a, R> {
-    /// What the store has, as the copy says it.
-    pub fn text_of(&self, stored: &Show) -> Result<Vec<u8>, AllocError> {
-        let text = text_of(self.alloc(), stored, self.port)?;
-        Vec::from_slice(self.alloc(), text.as_bytes())
-    }
-
-    // The line of where the copy is, and how to take the load back.
-    fn kept_line(&self, kept: &str) -> Result<String, AllocError> {
-        let path = Shown { text: kept };
-        let dir = Shown {
-            text: self.what.dir.unwrap_or(""),
-        };
-        format!(in self.alloc();
-            "what the store had is in {path}; back: cuedesk load {path} {dir} --exact\n"
-        )
-    }
-
     /// Says what became of the copy, and how to take the load back.
     pub fn tell_kept<W: Write>(
         &self,
         kept: &io::Result<Kept>,
         progress: &mut Progress<'_, W>,
     ) -> Result<(), Ending> {
-        let beside = Shown {
-            text: self.what.path,
-        };
         match kept {
-            Ok(Kept::In(path)) => return progress.print(self.kept_line(path.as_str())),
-            Ok(Kept::Full) => say(
-                self.rt,
-                format_args!(
-                    "what the store had is NOT kept: {MAX_KEPT} such files stand beside {beside}; \
-                     take old ones away"
-                ),
-            ),
-            Err(why) => say(
-                self.rt,
-                format_args!("what the store had is NOT kept beside {beside}: {why}"),
-            ),
+            Ok(Kept::In(name)) => {
+                return progress.print_kept(name.as_str(), self.what.dir.unwrap_or(""));
+            }
+            Ok(Kept::Full) => self.say(&Said::NoName),
+            Err(why) => self.say_why(&Said::NotKept, why),
         }
         Ok(())
     }

@@ -1,12 +1,16 @@
 //! Loading a show file: what the store has not is added, or a plan puts the file in the place of what differs; and then
 //! the store is compared with the file.
+ghost use Rattle.std.specs.Prelude.{◌≡◌, IfErr, IsOk, None, OnOk, Some};
+
 use cue_desk::ending::Ending;
 use cue_desk::ports::controller_port;
 use cue_files_run::read_sound;
+use cue_load_words::{About, Said, SaidWords};
 use cue_loading::Manner;
+use cue_saying::say;
 use std::alloc::Global;
 use std::fs::{File, Files};
-use std::io::{Eprint, Write};
+use std::io::{self, Eprint, Write};
 use std::net::Net;
 use std::time::Clock;
 
@@ -31,10 +35,67 @@ pub struct Loading<'a, R> {
     pub port: u16,
 }
 
+// Says a line, and after it why it is so.
+fn say_because<R: Eprint>(rt: &R, words: SaidWords<'_>, why: &io::Error) {
+    say(rt, format_args!("{words}: {why}"));
+}
+
 impl<'a, R: AllocGlobal> Loading<'a, R> {
     /// Where memory is taken from.
     pub fn alloc(&self) -> Global {
         self.rt.alloc()
+    }
+
+    /// What its lines name.
+    pub fn about(&self) -> About<'a>
+        ensures path { result.path ≡ self.now.what.path }
+        ensures port { result.port ≡ self.now.port }
+    {
+        About {
+            path: self.what.path,
+            dir: self.what.dir.unwrap_or(""),
+            port: self.port,
+        }
+    }
+}
+
+impl<'a, R: Eprint + AllocGlobal> Loading<'a, R> {
+    /// Says a line.
+    pub fn say(&self, said: &Said) {
+        let about = self.about();
+        let words = SaidWords {
+            said,
+            about: &about,
+        };
+        say(self.rt, words);
+    }
+
+    /// Says these lines, in order.
+    pub fn say_all(&self, lines: &[Said]) {
+        for said in lines {
+            self.say(said);
+        }
+    }
+
+    /// Says a line, and after it why it is so.
+    pub fn say_why(&self, said: &Said, why: &io::Error) {
+        let about = self.about();
+        let words = SaidWords {
+            said,
+            about: &about,
+        };
+        say_because(self.rt, words, why);
+    }
+}
+
+/// Whether a command that ends so is done.
+pub fn done_by(ending: Option<Ending>) -> Result<(), Ending>
+    ensures done { OnOk result (ending ≡ None) }
+    ensures ends { IfErr result (λ e. ending ≡ Some e) }
+{
+    match ending {
+        None => Ok(()),
+        Some(ending) => Err(ending),
     }
 }
 

@@ -1,16 +1,17 @@
 //! The store in a folder, read while the controller says that it is the one which it serves.
-ghost use Rattle.std.specs.Prelude.{◌≡◌, IfOk, IfSome, true};
+ghost use Rattle.std.specs.Prelude.{◌≡◌, IfErr, IfOk, IfSome, not, true};
 ghost use Rattle.cue_load_machine.specs.Plans.{rests};
+ghost use Rattle.cue_loading.specs.Loaded.{is_same};
 
 use crate::loading::Loading;
-use cue_core::State;
 use cue_desk::asking::Asked;
 use cue_desk::ending::Ending;
 use cue_desk::replying::Status;
 use cue_files_run::open_store;
-use cue_load_machine::{LoadMachine, agrees, rests, status_in};
+use cue_load_machine::{LoadMachine, live_cues, rests, show_in, status_in};
+use cue_load_words::{LiveCues, Said, compare};
 use cue_saying::say;
-use cue_show::{CueNo, Show};
+use cue_show::Show;
 use std::fs::{File, Files};
 use std::io::Eprint;
 use std::net::Net;
@@ -26,31 +27,15 @@ pub struct Stored {
     pub live: i32,
 }
 
-// The show of this state, if it is the one of which the controller says this.
-fn show_of(state: &State, status: Status) -> Result<Option<Show>, Ending> {
-    if !agrees(status, state) {
-        return Ok(None);
+impl<'a, R: Eprint + AllocGlobal> Loading<'a, R> {
+    // Says in what a store is not what the file says; whether there is something.
+    fn compare_with(&self, is_told: bool, file: &Show, stored: &Show) -> Result<bool, Ending>
+        ensures { IfOk result (λ differs. differs ≡ not (is_same file.now stored.now)) }
+    {
+        let found = compare(self.alloc(), is_told, file, stored)?;
+        self.say_all(&found.lines);
+        Ok(found.differs)
     }
-    Ok(Some(state.show().try_clone()?))
-}
-
-// Puts the cues that are live in this state into a list, if it is the one of which the controller says this.
-fn push_live(cues: &mut Vec<CueNo>, state: &State, status: Status) -> Result<(), Ending> {
-    if !agrees(status, state) {
-        return Ok(());
-    }
-    for attempt in state.live().as_slice() {
-        if cues.push(attempt.cue).is_err() {
-            return Err(Ending::Failed);
-        }
-    }
-    Ok(())
-}
-
-// Says why a store cannot be read.
-fn unread<R: Eprint>(rt: &R, why: &str) -> Ending {
-    say(rt, why);
-    Ending::Failed
 }
 
 impl<'a, R: Files<File = File> + Net + Clock + Eprint + AllocGlobal> Loading<'a, R> {
@@ -64,7 +49,7 @@ impl<'a, R: Files<File = File> + Net + Clock + Eprint + AllocGlobal> Loading<'a,
         match status_in(&told) {
             Some(status) => Ok(status),
             None => {
-                self.say_no_status();
+                self.say(&Said::NoStatus);
                 Err(Ending::Silent)
             }
         }
@@ -73,26 +58,29 @@ impl<'a, R: Files<File = File> + Net + Clock + Eprint + AllocGlobal> Loading<'a,
     // The show of the store in this folder, if its state is the one of which the controller says this.
     fn look(&self, dir: &str, status: Status) -> Result<Option<Show>, Ending> {
         match open_store(self.rt, dir) {
-            Ok(keeper) => show_of(keeper.state(), status),
-            Err(why) => Err(unread(self.rt, why.as_str())),
-        }
-    }
-
-    // Puts the cues that are live in the store of this folder into a list; none if that is not what the controller
-    // says.
-    fn read_live(&self, cues: &mut Vec<CueNo>, dir: &str, status: Status) -> Result<(), Ending> {
-        match open_store(self.rt, dir) {
-            Ok(keeper) => push_live(cues, keeper.state(), status),
-            Err(why) => Err(unread(self.rt, why.as_str())),
+            Ok(keeper) => Ok(show_in(status, keeper.state())?),
+            Err(why) => {
+                say(self.rt, why.as_str());
+                Err(Ending::Failed)
+            }
         }
     }
 
     // Says that nothing can be replaced while the cues are live that are so in the store of this folder.
     fn refuse_live(&self, dir: &str, status: Status) -> Ending {
-        let mut cues = Vec::new(self.alloc());
-        match self.read_live(&mut cues, dir, status) {
-            Ok(()) => self.say_live(&cues),
-            Err(ending) => ending,
+        let keeper = match open_store(self.rt, dir) {
+            Ok(keeper) => keeper,
+            Err(why) => {
+                say(self.rt, why.as_str());
+                return Ending::Failed;
+            }
+        };
+        match live_cues(self.alloc(), status, keeper.state()) {
+            Ok(cues) => {
+                say(self.rt, LiveCues { cues: &cues });
+                Ending::Refused
+            }
+            Err(_) => Ending::Failed,
         }
     }
 
@@ -124,7 +112,7 @@ impl<'a, R: Files<File = File> + Net + Clock + Eprint + AllocGlobal> Loading<'a,
                 return Ok(show);
             }
         }
-        self.say_other_store(dir);
+        self.say(&Said::OtherStore);
         Err(Ending::Refused)
     }
 
@@ -137,7 +125,14 @@ impl<'a, R: Files<File = File> + Net + Clock + Eprint + AllocGlobal> Loading<'a,
                 return Ok(stored);
             }
         }
-        self.say_other_store(dir);
+        self.say(&Said::OtherStore);
         Err(Ending::Refused)
+    }
+
+    /// Compares the store with the file, and says what differs, and what to do; whether something does. `is_told` says
+    /// that the replies have told already which entries are there and differ.
+    pub fn compare(&self, is_told: bool, dir: &str, file: &Show) -> Result<bool, Ending> {
+        let stored = self.stored(dir)?;
+        self.compare_with(is_told, file, &stored)
     }
 }

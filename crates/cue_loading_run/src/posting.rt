@@ -1,5 +1,6 @@
 //! The post of a load: datagrams by its sockets, and the copy of the store beside the show file.
-ghost use Rattle.std.specs.Prelude.{None};
+ghost use Rattle.std.specs.Prelude.{IfOk, IfSome, IsSomeAnd, IsTrue, None, OnOk};
+ghost use Rattle.cue_loading_run.specs.Kept.{IsBeside, is_kept};
 
 use crate::copying::{Kept, keep_beside};
 use cue_edge_run::SocketPost;
@@ -15,6 +16,16 @@ pub struct LoadPost<'a, R> {
     path: &'a str,
     sockets: SocketPost<'a>,
     kept: Option<io::Result<Kept>>,
+}
+
+// Whether a copy of which this became went out.
+fn went_out(kept: &io::Result<Kept>) -> Result<(), PostFault>
+    ensures { OnOk result (IsTrue (is_kept kept.now)) }
+{
+    match kept {
+        Ok(Kept::In(_)) => Ok(()),
+        Ok(Kept::Full) | Err(_) => Err(PostFault),
+    }
 }
 
 impl<'a, R: Files<File = File> + AllocGlobal> LoadPost<'a, R> {
@@ -33,12 +44,15 @@ impl<'a, R: Files<File = File> + AllocGlobal> LoadPost<'a, R> {
         self.kept.take()
     }
 
-    // Keeps the copy.
-    fn keep(&mut self, text: &[u8]) -> Result<(), PostFault> {
+    // Keeps the copy. It went out only if it stands in a file.
+    fn keep(&mut self, text: &[u8]) -> Result<(), PostFault>
+        ensures kept { OnOk result (IsSomeAnd self.new.kept (λ kept. IsTrue (is_kept kept))) }
+        ensures beside { IfSome self.new.kept (λ kept. IfOk kept (λ kept. IsBeside self.old.path.now kept)) }
+    {
         let kept = keep_beside(self.rt, self.path, text);
-        let is_kept = matches!(&kept, Ok(Kept::In(_)));
+        let went = went_out(&kept);
         self.kept = Some(kept);
-        if is_kept { Ok(()) } else { Err(PostFault) }
+        went
     }
 }
 

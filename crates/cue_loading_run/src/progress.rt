@@ -1,8 +1,13 @@
-//! How far a load has come, on a terminal: a line that is drawn over itself.
+//! How far a load has come, on a terminal: a line that is drawn over itself; and what is printed.
+ghost use Rattle.std.specs.Prelude.{◌≡◌, ◌++◌, IfErr, OnOk, codes};
+ghost use Rattle.std.specs.Io.KnownBytes.{Appends};
+ghost use Rattle.cue_load_words.specs.Counted.{kept_words, printed_words};
+
 use cue_desk::ending::Ending;
 use cue_load_machine::LoadMachine;
+use cue_load_words::{About, KeptWords, Printed, PrintedWords};
 use cue_saying::print;
-use std::alloc::{AllocError, Global};
+use std::alloc::Global;
 use std::io::Write;
 
 /// After so many steps the line is drawn again.
@@ -36,7 +41,8 @@ impl<'a, W: Write> Progress<'a, W> {
     // Draws the line of the steps that are done.
     fn draw(&mut self) -> Result<(), Ending> {
         let (done, all) = (self.done, self.all);
-        self.print(format!(in self.alloc; "\r{done} of {all}"))
+        let line = format!(in self.alloc; "\r{done} of {all}")?;
+        print(self.writer, line.as_str())
     }
 
     /// So many steps are done, and another machine does the others.
@@ -64,9 +70,23 @@ impl<'a, W: Write> Progress<'a, W> {
         }
     }
 
-    /// Prints a line, if there was memory to make it.
-    pub fn print(&mut self, line: Result<String, AllocError>) -> Result<(), Ending> {
-        let line = line?;
+    /// Prints a line.
+    pub fn print(&mut self, printed: &Printed, about: &About<'_>) -> Result<(), Ending>
+        ensures { OnOk result (Appends (W.contents self.old.writer.now) (W.contents self.new.writer.now)
+            (printed_words printed.now about.now ++ codes "\n")) }
+    {
+        let words = PrintedWords { printed, about };
+        let line = format!(in self.alloc; "{words}\n")?;
+        print(self.writer, line.as_str())
+    }
+
+    /// Prints where the copy is, and how to take the load back.
+    pub fn print_kept(&mut self, copy: &str, dir: &str) -> Result<(), Ending>
+        ensures { OnOk result (Appends (W.contents self.old.writer.now) (W.contents self.new.writer.now)
+            (kept_words copy.now dir.now ++ codes "\n")) }
+    {
+        let words = KeptWords { copy, dir };
+        let line = format!(in self.alloc; "{words}\n")?;
         print(self.writer, line.as_str())
     }
 }

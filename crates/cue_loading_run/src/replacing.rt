@@ -1,53 +1,33 @@
 //! A plan puts a show file in the place of what differs from it in the store.
-ghost use Rattle.std.specs.Prelude.{◌≡◌, true, false};
+ghost use Rattle.std.specs.Prelude.{◌≡◌, Some, IfOk, OnOk, true, false};
 ghost use Rattle.cue_loading.specs.Steps.{goes_on};
 ghost use Rattle.cue_load_machine.specs.Plans.{rests};
+ghost use Rattle.cue_load_machine.specs.Stages.{end_of};
+ghost use Rattle.cue_load_machine.specs.declared.stage.LoadEnd.TheVariants.{Done};
+ghost use Rattle.cue_loading_run.specs.Planned.{IsPlannedFrom};
 
-use crate::differing::Compared;
-use crate::loading::Loading;
+use crate::loading::{Loading, done_by};
 use crate::looking::Stored;
 use crate::progress::Progress;
 use cue_desk::ending::Ending;
-use cue_load_machine::{
-    Copied, LoadEnd, Planned, changes_stored, count_cues, count_devices, is_exact, plan_load,
+use cue_load_machine::{LoadEnd, Planned, is_exact, plan_load};
+use cue_load_words::{
+    Kind, Said, copied_of, ending_of, ending_of_machine, lines_of_plan, replaced_line,
 };
-use cue_loading::differences;
-use cue_show::Show;
+use cue_show::{CueNo, Show};
 use std::fs::{File, Files};
 use std::io::{Eprint, Write};
 use std::net::Net;
 use std::time::Clock;
 
 impl<'a, R: Eprint + AllocGlobal> Loading<'a, R> {
-    // What the store had, and whether this load changes it.
-    fn copied(&self, file: &Show, stored: &Show) -> Result<Copied, Ending> {
-        let found = differences(self.alloc(), file, stored)?;
-        let is_wanted = changes_stored(self.what.manner, stored, &found);
-        let text = self.text_of(stored)?;
-        Ok(Copied { text, is_wanted })
-    }
-
-    // Says why a plan ended early.
-    fn tell_end(&self, planned: &Planned) -> Result<(), Ending> {
-        match planned.machine.end() {
-            Some(LoadEnd::Done) => Ok(()),
-            Some(LoadEnd::Refused { code, .. }) => {
-                if let Some(subject) = planned.subject() {
-                    self.say_refused(subject, code);
-                }
-                Err(Ending::Refused)
+    // Says what became of a plan; the place of the store was this.
+    fn tell_plan(&self, planned: &Planned, place: Option<CueNo>) {
+        let lines = lines_of_plan(planned, place);
+        for said in [lines.why, lines.not_whole, lines.place] {
+            if let Some(said) = said {
+                self.say(&said);
             }
-            Some(LoadEnd::Silent { .. } | LoadEnd::Nobody { .. }) => {
-                if let Some(subject) = planned.subject() {
-                    self.say_unanswered(subject);
-                }
-                Err(Ending::Silent)
-            }
-            Some(LoadEnd::NotKept) => {
-                self.say_not_kept();
-                Err(Ending::Failed)
-            }
-            None => Err(Ending::Failed),
         }
     }
 
@@ -60,40 +40,44 @@ impl<'a, R: Eprint + AllocGlobal> Loading<'a, R> {
     ) -> Result<(), Ending> {
         let exact = is_exact(self.what.manner);
         progress.clear();
-        progress.print(self.replaced_line("devices", count_devices(exact, file, stored)))?;
-        progress.print(self.replaced_line("cues", count_cues(exact, file, stored)))
+        for kind in [Kind::Devices, Kind::Cues] {
+            progress.print(&replaced_line(kind, exact, file, stored), &self.about())?;
+        }
+        Ok(())
     }
 }
 
 impl<'a, R: Files<File = File> + Net + Clock + Eprint + AllocGlobal> Loading<'a, R> {
-    // Carries a plan out; if it ends early, what that leaves is said.
+    // Carries a plan out, and says what it came to, if that is not all. It is done only if each of its steps was.
     fn follow<W: Write>(
         &self,
         planned: &mut Planned,
-        stored: &Show,
+        place: Option<CueNo>,
         progress: &mut Progress<'_, W>,
-    ) -> Result<(), Ending> {
+    ) -> Result<(), Ending>
+        ensures { OnOk result (end_of planned.new.machine.stage ≡ Some Done) }
+    {
         let carried = self.carry_out(&mut planned.machine, progress);
-        if planned.machine.end() != Some(LoadEnd::Done) {
+        let end = planned.machine.end();
+        if end != Some(LoadEnd::Done) {
             progress.clear();
         }
-        let ended = match carried {
-            Ok(()) => self.tell_end(planned),
+        self.tell_plan(planned, place);
+        match carried {
+            Ok(()) => done_by(ending_of_machine(end)),
             Err(ending) => Err(ending),
-        };
-        if ended.is_err() && planned.is_open() {
-            self.say_open(stored.place());
         }
-        ended
     }
 
     // Plans how to make of what the store has what the file says.
     fn planned(&self, file: &Show, stored: &Stored) -> Result<Planned, Ending>
         requires at_rest { rests stored.now.live ≡ true }
         requires takes { goes_on self.now.what.manner false ≡ false }
+        ensures { IfOk result (λ planned.
+            IsPlannedFrom self.now.port self.now.what.manner file.now stored.now.show planned) }
     {
-        let copied = self.copied(file, &stored.show)?;
         let (manner, live) = (self.what.manner, stored.live);
+        let copied = copied_of(self.alloc(), manner, file, &stored.show, self.port)?;
         match plan_load(
             self.alloc(),
             self.port,
@@ -105,7 +89,7 @@ impl<'a, R: Files<File = File> + Net + Clock + Eprint + AllocGlobal> Loading<'a,
         ) {
             Ok(Some(planned)) => Ok(planned),
             Ok(None) => {
-                self.say_full();
+                self.say(&Said::NoRoom);
                 Err(Ending::Refused)
             }
             Err(_) => Err(Ending::Failed),
@@ -121,7 +105,7 @@ impl<'a, R: Files<File = File> + Net + Clock + Eprint + AllocGlobal> Loading<'a,
         let mut planned = self.planned(file, stored)?;
         let all = planned.steps.len();
         let mut progress = Progress::new(self.alloc(), self.what.tells, all, writer);
-        let followed = self.follow(&mut planned, &stored.show, &mut progress);
+        let followed = self.follow(&mut planned, stored.show.place(), &mut progress);
         drop(planned);
         followed?;
         self.tell_counts(file, &stored.show, &mut progress)
@@ -141,10 +125,6 @@ impl<'a, R: Files<File = File> + Net + Clock + Eprint + AllocGlobal> Loading<'a,
         let replaced = self.replace(file, &stored, writer);
         drop(stored);
         replaced?;
-        if self.compare(Compared::replaced(self.what.path, dir), file)? {
-            Err(Ending::Refused)
-        } else {
-            Ok(())
-        }
+        done_by(ending_of(false, self.compare(false, dir, file)?))
     }
 }

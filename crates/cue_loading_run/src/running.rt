@@ -1,4 +1,9 @@
 //! The lives of machines, at sockets that are connected to the controller's port.
+ghost use Rattle.std.specs.Prelude.{◌≡◌, IfErr, OnOk};
+ghost use Rattle.cue_desk.specs.declared.ending.Ending.TheVariants.{Failed};
+ghost use Rattle.cue_machine.specs.declared.living.Why.TheVariants.{Over};
+ghost use Rattle.cue_loading_run.specs.Lived.{WasCarriedOut};
+
 use crate::loading::Loading;
 use crate::posting::LoadPost;
 use crate::progress::Progress;
@@ -6,8 +11,8 @@ use cue_ask_machine::home;
 use cue_desk::ending::Ending;
 use cue_edge_run::{NetEars, SocketPost, connected};
 use cue_load_machine::{LoadMachine, SOCKETS, advance};
+use cue_load_words::Said;
 use cue_machine::{Room, Why};
-use cue_saying::say;
 use mio::net::UdpSocket;
 use std::alloc::{AllocError, Global};
 use std::fs::{File, Files};
@@ -39,22 +44,11 @@ fn connect_all<R: Net + AllocGlobal>(rt: &R, port: u16) -> io::Result<Vec<UdpSoc
     Ok(sockets)
 }
 
-// The same; if there are none, why is on standard error.
-fn open_sockets<R: Net + Eprint + AllocGlobal>(
-    rt: &R,
-    port: u16,
-) -> Result<Vec<UdpSocket>, Ending> {
-    match connect_all(rt, port) {
-        Ok(sockets) => Ok(sockets),
-        Err(why) => {
-            say(rt, format_args!("no socket: {why}"));
-            Err(Ending::Failed)
-        }
-    }
-}
-
 // How a life ended, unless the machine is over.
-fn ended_by(why: Why) -> Result<(), Ending> {
+fn ended_by(why: Why) -> Result<(), Ending>
+    ensures over { OnOk result (why ≡ Over) }
+    ensures err { IfErr result (λ ending. ending ≡ Failed) }
+{
     match why {
         Why::Over => Ok(()),
         Why::Turns | Why::End | Why::Ears | Why::Memory => Err(Ending::Failed),
@@ -62,8 +56,21 @@ fn ended_by(why: Why) -> Result<(), Ending> {
 }
 
 impl<'a, R: Net + Clock + Eprint + AllocGlobal> Loading<'a, R> {
+    // Sockets for a life; if there are none, why is said.
+    fn open_sockets(&self) -> Result<Vec<UdpSocket>, Ending> {
+        match connect_all(self.rt, self.port) {
+            Ok(sockets) => Ok(sockets),
+            Err(why) => {
+                self.say_why(&Said::NoSocket, &why);
+                Err(Ending::Failed)
+            }
+        }
+    }
+
     // Lets a machine live at these sockets that writes no copy, until it is over.
-    fn ask_at(&self, machine: &mut LoadMachine, sockets: &mut [UdpSocket]) -> Result<(), Ending> {
+    fn ask_at(&self, machine: &mut LoadMachine, sockets: &mut [UdpSocket]) -> Result<(), Ending>
+        ensures { OnOk result (WasCarriedOut machine.old machine.new) }
+    {
         let Ok(mut ears) = NetEars::steady(self.rt, self.rt, sockets) else {
             return Err(Ending::Failed);
         };
@@ -74,8 +81,10 @@ impl<'a, R: Net + Clock + Eprint + AllocGlobal> Loading<'a, R> {
     }
 
     /// Lets a machine live that writes no copy, until it is over.
-    pub fn ask(&self, machine: &mut LoadMachine) -> Result<(), Ending> {
-        let mut sockets = open_sockets(self.rt, self.port)?;
+    pub fn ask(&self, machine: &mut LoadMachine) -> Result<(), Ending>
+        ensures { OnOk result (WasCarriedOut machine.old machine.new) }
+    {
+        let mut sockets = self.open_sockets()?;
         let asked = self.ask_at(machine, &mut sockets);
         drop(sockets);
         asked
@@ -102,7 +111,9 @@ impl<'a, R: Files<File = File> + Net + Clock + Eprint + AllocGlobal> Loading<'a,
         machine: &mut LoadMachine,
         sockets: &mut [UdpSocket],
         progress: &mut Progress<'_, W>,
-    ) -> Result<(), Ending> {
+    ) -> Result<(), Ending>
+        ensures { OnOk result (WasCarriedOut machine.old machine.new) }
+    {
         let Ok(mut ears) = NetEars::steady(self.rt, self.rt, sockets) else {
             return Err(Ending::Failed);
         };
@@ -123,8 +134,10 @@ impl<'a, R: Files<File = File> + Net + Clock + Eprint + AllocGlobal> Loading<'a,
         &self,
         machine: &mut LoadMachine,
         progress: &mut Progress<'_, W>,
-    ) -> Result<(), Ending> {
-        let mut sockets = open_sockets(self.rt, self.port)?;
+    ) -> Result<(), Ending>
+        ensures { OnOk result (WasCarriedOut machine.old machine.new) }
+    {
+        let mut sockets = self.open_sockets()?;
         let carried = self.carry_out_at(machine, &mut sockets, progress);
         drop(sockets);
         carried

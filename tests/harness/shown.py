@@ -34,6 +34,7 @@ ELSEWHERE = (
     ("tools/try-device", "tests/runs/try-device"),
     ("cuedesk relay*", "tests/runs/relay: it wants an address of a network"),
     ("tools/package", "tests/runs/package"),
+    ("tools/handbook*", "tests/runs/handbook"),
     ("sudo dpkg -i *", "tests/runs/package, in a Debian of its own"),
     ("sudo systemctl start cuectl-form@first *", "tests/runs/package, in that Debian"),
     ("systemctl * cuectl*@first*", "tests/runs/package, in that Debian"),

@@ -1,5 +1,5 @@
 //! What a show file has is added, and the store is compared with it, if its folder is known.
-ghost use Rattle.std.specs.Prelude.{◌≡◌, IfOk, None};
+ghost use Rattle.std.specs.Prelude.{◌≡◌, IfOk, None, length};
 ghost use Rattle.cue_load_machine.specs.Answering.{AreAnswers};
 ghost use Rattle.cue_load_machine.specs.Steps.{told_of};
 
@@ -34,8 +34,9 @@ impl<'a, R: Eprint + AllocGlobal> Loading<'a, R> {
         machine: &LoadMachine,
         entries: &[E],
     ) -> Result<Vec<Answered>, Ending>
-        ensures { IfOk result (λ answers.
+        ensures each { IfOk result (λ answers.
             AreAnswers (told_of machine.now.asks.items machine.now.answers.items) answers.items) }
+        ensures all { IfOk result (λ answers. length answers.items ≡ length entries.now) }
     {
         let told = machine.told(self.alloc())?;
         match answers_in(self.alloc(), &told, entries.len())? {
@@ -86,7 +87,9 @@ impl<'a, R: Files<File = File> + Net + Clock + Eprint + AllocGlobal> Loading<'a,
         &self,
         entries: &[E],
         progress: &mut Progress<'_, W>,
-    ) -> Result<Vec<Answered>, Ending> {
+    ) -> Result<Vec<Answered>, Ending>
+        ensures { IfOk result (λ answers. length answers.items ≡ length entries.now) }
+    {
         let Ok(mut machine) = add_entries(self.alloc(), self.port, entries) else {
             return Err(Ending::Failed);
         };

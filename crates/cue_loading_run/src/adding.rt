@@ -1,5 +1,7 @@
 //! What a show file has is added, and the store is compared with it, if its folder is known.
-ghost use Rattle.std.specs.Prelude.{◌≡◌, IfOk, None, length};
+ghost use Rattle.std.specs.Prelude.{◌≡◌, ◌||◌, IfOk, None, OnOk, false, length};
+ghost use Rattle.cue_load_machine.specs.Order.{comes_late};
+ghost use Rattle.cue_load_words.specs.Endings.{some_refused};
 ghost use Rattle.cue_load_machine.specs.Answering.{AreAnswers};
 ghost use Rattle.cue_load_machine.specs.Steps.{told_of};
 
@@ -24,6 +26,19 @@ struct Added {
     is_refused: bool,
     // Whether a cue that is new may stand after one that was there, and that the file has after it.
     comes_late: bool,
+}
+
+impl Added {
+    // What these replies to devices and to cues say.
+    fn by(devices: &[Answered], cues: &[Answered]) -> Added
+        ensures refused { result.is_refused ≡ some_refused devices.now || some_refused cues.now }
+        ensures late { result.comes_late ≡ comes_late cues.now }
+    {
+        Added {
+            is_refused: some_refused(devices) || some_refused(cues),
+            comes_late: comes_late(cues),
+        }
+    }
 }
 
 impl<'a, R: Eprint + AllocGlobal> Loading<'a, R> {
@@ -116,30 +131,30 @@ impl<'a, R: Files<File = File> + Net + Clock + Eprint + AllocGlobal> Loading<'a,
         progress.clear();
         progress.print(&added_line(Kind::Devices, &devices), &self.about())?;
         progress.print(&added_line(Kind::Cues, &cues), &self.about())?;
-        Ok(Added {
-            is_refused: some_refused(&devices) || some_refused(&cues),
-            comes_late: comes_late(&cues),
-        })
+        Ok(Added::by(&devices, &cues))
     }
 
-    // Whether the store is not what the file says, after what is new was added. Without the folder of the store only
-    // the order can be known.
-    fn differs<W: Write>(
+    // Compares the store with the file after what is new was added: the load is done only if nothing was refused. Without
+    // the folder of the store only the order can be known.
+    fn conclude<W: Write>(
         &self,
         file: &Show,
-        comes_late: bool,
+        added: Added,
         progress: &mut Progress<'_, W>,
-    ) -> Result<bool, Ending>
-        ensures { self.now.what.dir ≡ None → IfOk result (λ differs. differs ≡ comes_late) }
+    ) -> Result<(), Ending>
+        ensures taken { OnOk result (added.is_refused ≡ false) }
+        ensures order { self.now.what.dir ≡ None → OnOk result (added.comes_late ≡ false) }
     {
-        if let Some(dir) = self.what.dir {
-            return self.compare(true, dir, file);
+        match self.what.dir {
+            Some(dir) => self.compare(added.is_refused, true, dir, file),
+            None => {
+                progress.print(&Printed::NotCompared, &self.about())?;
+                if added.comes_late {
+                    self.say(&Said::OtherOrder);
+                }
+                done_by(ending_of(added.is_refused, added.comes_late))
+            }
         }
-        progress.print(&Printed::NotCompared, &self.about())?;
-        if comes_late {
-            self.say(&Said::OtherOrder);
-        }
-        Ok(comes_late)
     }
 
     /// Adds what the file has. If the folder of the store is known, what it had is kept before, and it is compared with
@@ -156,7 +171,6 @@ impl<'a, R: Files<File = File> + Net + Clock + Eprint + AllocGlobal> Loading<'a,
             self.keep_stored(dir, show, &mut progress)?;
         }
         let added = self.add(file, &mut progress)?;
-        let differs = self.differs(show, added.comes_late, &mut progress)?;
-        done_by(ending_of(added.is_refused, differs))
+        self.conclude(show, added, &mut progress)
     }
 }

@@ -1,15 +1,15 @@
 //! The store in a folder, read while the controller says that it is the one which it serves.
-ghost use Rattle.std.specs.Prelude.{◌≡◌, IfErr, IfOk, IfSome, not, true};
+ghost use Rattle.std.specs.Prelude.{◌≡◌, IfOk, IfSome, OnOk, true, false};
 ghost use Rattle.cue_load_machine.specs.Plans.{rests};
 ghost use Rattle.cue_loading.specs.Loaded.{is_same};
 
-use crate::loading::Loading;
+use crate::loading::{Loading, done_by};
 use cue_desk::asking::Asked;
 use cue_desk::ending::Ending;
 use cue_desk::replying::Status;
 use cue_files_run::open_store;
 use cue_load_machine::{LoadMachine, live_cues, rests, show_in, status_in};
-use cue_load_words::{LiveCues, Said, compare};
+use cue_load_words::{LiveCues, Said, compare, ending_of};
 use cue_saying::say;
 use cue_show::Show;
 use std::fs::{File, Files};
@@ -28,13 +28,20 @@ pub struct Stored {
 }
 
 impl<'a, R: Eprint + AllocGlobal> Loading<'a, R> {
-    // Says in what a store is not what the file says; whether there is something.
-    fn compare_with(&self, is_told: bool, file: &Show, stored: &Show) -> Result<bool, Ending>
-        ensures { IfOk result (λ differs. differs ≡ not (is_same file.now stored.now)) }
+    // Says in what a store is not what the file says. The load is done only if it is, and nothing was refused.
+    fn judge(
+        &self,
+        is_refused: bool,
+        is_told: bool,
+        file: &Show,
+        stored: &Show,
+    ) -> Result<(), Ending>
+        ensures same { OnOk result (is_same file.now stored.now ≡ true) }
+        ensures taken { OnOk result (is_refused ≡ false) }
     {
         let found = compare(self.alloc(), is_told, file, stored)?;
         self.say_all(&found.lines);
-        Ok(found.differs)
+        done_by(ending_of(is_refused, found.differs))
     }
 }
 
@@ -129,10 +136,18 @@ impl<'a, R: Files<File = File> + Net + Clock + Eprint + AllocGlobal> Loading<'a,
         Err(Ending::Refused)
     }
 
-    /// Compares the store with the file, and says what differs, and what to do; whether something does. `is_told` says
-    /// that the replies have told already which entries are there and differ.
-    pub fn compare(&self, is_told: bool, dir: &str, file: &Show) -> Result<bool, Ending> {
+    /// Compares the store with the file, and says what differs, and what to do. The load is done only if nothing does,
+    /// and nothing was refused. `is_told` says that the replies have told already which entries are there and differ.
+    pub fn compare(
+        &self,
+        is_refused: bool,
+        is_told: bool,
+        dir: &str,
+        file: &Show,
+    ) -> Result<(), Ending>
+        ensures { OnOk result (is_refused ≡ false) }
+    {
         let stored = self.stored(dir)?;
-        self.compare_with(is_told, file, &stored)
+        self.judge(is_refused, is_told, file, &stored)
     }
 }

@@ -11,9 +11,7 @@ use crate::looking::Stored;
 use crate::progress::Progress;
 use cue_desk::ending::Ending;
 use cue_load_machine::{LoadEnd, Planned, is_exact, plan_load};
-use cue_load_words::{
-    Kind, Said, copied_of, ending_of, ending_of_machine, lines_of_plan, replaced_line,
-};
+use cue_load_words::{Kind, Said, copied_of, ending_of_machine, lines_of_plan, replaced_line};
 use cue_show::{CueNo, Show};
 use std::fs::{File, Files};
 use std::io::{Eprint, Write};
@@ -125,6 +123,6 @@ impl<'a, R: Files<File = File> + Net + Clock + Eprint + AllocGlobal> Loading<'a,
         let replaced = self.replace(file, &stored, writer);
         drop(stored);
         replaced?;
-        done_by(ending_of(false, self.compare(false, dir, file)?))
+        self.compare(false, false, dir, file)
     }
 }

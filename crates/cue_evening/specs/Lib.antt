@@ -1,6 +1,12 @@
 pub mod Alone
 pub mod Busy
+pub mod Course
 pub mod Ends
 pub mod Holding
 pub mod LinesOf
+pub mod Looks
+pub mod Names
 pub mod Refusals
+pub mod Replies
+pub mod Sent
+pub mod Time

@@ -1,10 +1,12 @@
 -- The lines that the log makes of what it sees.
-use Rattle.std.specs.Prelude.{ℕ, ◌-◌, ◌/◌, ◌%◌, Bool, ◌&&◌, ◌||◌, ◌==◌, if◌then◌else◌, List, [], Option, Some, None, nat_eq, nat_lt}
-use Rattle.std.specs.List.{list_any}
+use Rattle.std.specs.Prelude.{ℕ, ◌-◌, ◌/◌, ◌%◌, Bool, ◌&&◌, ◌||◌, ◌==◌, if◌then◌else◌, List, [], ◌∷◌, ◌++◌, codes, Option, Some, None, nat_eq, nat_lt}
+use Rattle.std.specs.List.{flat_map, list_any}
 use Rattle.std.specs.Option.{option_map}
 use Rattle.cue_core.specs.Codes.{code_number}
 use Rattle.cue_core.specs.declared.command.Code.{Code}
 use Rattle.cue_core.specs.declared.command.Code.TheVariants as code
+use Rattle.cue_core.specs.declared.event.Event.{Event}
+use Rattle.cue_core.specs.declared.event.Event.TheVariants as event
 use Rattle.cue_engine.specs.declared.account.Order.{Order}
 use Rattle.cue_engine.specs.declared.account.OrderKind.{OrderKind}
 use Rattle.cue_engine.specs.declared.account.OrderKind.TheVariants as engine
@@ -14,7 +16,7 @@ use Rattle.cue_exchange.specs.declared.attempt.Reason.{Reason}
 use Rattle.cue_exchange.specs.declared.attempt.Reason.TheVariants as reason
 use Rattle.cue_exchange.specs.declared.attempt.Stage.{Stage}
 use Rattle.cue_exchange.specs.declared.attempt.Stage.TheVariants as stage
-use Rattle.cue_log_lines.specs.Listed.{failures_text}
+use Rattle.cue_log_lines.specs.Listed.{failures_text, found_text}
 use Rattle.cue_log_lines.specs.declared.line.Count.{Count}
 use Rattle.cue_log_lines.specs.declared.line.Line.{Line}
 use Rattle.cue_log_lines.specs.declared.line.Line.TheVariants as line
@@ -23,6 +25,7 @@ use Rattle.cue_log_lines.specs.declared.line.OrderKind.TheVariants as order
 use Rattle.cue_log_lines.specs.declared.line.Refused.{Refused}
 use Rattle.cue_log_lines.specs.declared.line.Refused.TheVariants as refused
 use Rattle.cue_log_lines.specs.declared.line.Span.{Span}
+use Rattle.cue_log_lines.specs.declared.line.Try.{Try}
 use Rattle.cue_log_lines.specs.declared.line.Why.{Why}
 use Rattle.cue_log_lines.specs.declared.line.Why.TheVariants as why
 use Rattle.cue_log_lines.specs.declared.listed.Failure.{Failure}
@@ -67,9 +70,13 @@ why_of reason.Power device = why.Said reason.Power
 abbrev pub cancel_line : ℕ → Option (List ℕ) → Reason → Option ℕ → Line
 cancel_line seq cue reason device = line.GivenUp (record { number = seq; cue = cue }) (why_of reason device)
 
+-- an attempt as a line names it
+abbrev pub try_of : Attempt → Try
+try_of attempt = record { number = attempt.seq; cue = Some attempt.cue }
+
 -- the line of an attempt that hangs on one device
 abbrev pub alone_line : Attempt → ℕ → Line
-alone_line attempt device = line.Alone (record { number = attempt.seq; cue = Some attempt.cue }) device
+alone_line attempt device = line.Alone (try_of attempt) device
 
 -- the line of an attempt that began after the one with this number, if it hangs on one device
 abbrev pub standby_line : ℕ → Attempt → Option Line
@@ -85,7 +92,7 @@ failures_of (stage.Cancelling reason) failures = []
 abbrev pub end_line : Followed → List ℕ → ℕ → Line
 end_line f failures now = line.Ended (record {
   attempt = record { number = f.seq; cue = Some f.cue };
-  outcome = end_of f.stage f.failures.items;
+  outcome = end_of f.stage f.failures;
   failures = failures;
   span = span_of (now - f.since);
 })
@@ -107,6 +114,30 @@ found_of (stage.Cancelling reason.Operator) = found.GivenUp
 found_of (stage.Cancelling reason.Deadline) = found.GivenUp
 found_of (stage.Cancelling reason.Abort) = found.GivenUp
 found_of (stage.Cancelling reason.Release) = found.GivenUp
+
+-- an attempt that a recovery found
+abbrev pub attempt_text : Attempt → List ℕ
+attempt_text attempt = found_text (try_of attempt) (found_of attempt.stage)
+
+-- the same after another one
+abbrev pub next_text : Attempt → List ℕ
+next_text attempt = codes "; " ++ attempt_text attempt
+
+-- the attempts that a recovery found, with semicolons between them
+abbrev pub recovered_text : List Attempt → List ℕ
+recovered_text [] = []
+recovered_text (first ∷ others) = attempt_text first ++ flat_map next_text others
+
+-- the device that is done with by an event, since it failed or has given up
+abbrev pub device_of_end : Event → Option ℕ
+device_of_end (event.Failed seq device) = Some device
+device_of_end (event.LetGo seq device) = Some device
+device_of_end _ = None
+
+-- the device by which a preparation was given up: the event after that says so
+abbrev pub device_of_cancel : List Event → Option ℕ
+device_of_cancel [] = None
+device_of_cancel (e ∷ es) = device_of_end e
 
 -- the address speaks to many: it has a sign of patterns
 abbrev pub is_wide : List ℕ → Bool

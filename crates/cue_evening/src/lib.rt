@@ -19,7 +19,9 @@
 //! - If there is no memory for a line it is lost, and the show goes on. If there was none for a bit of the wire, the
 //!   lines of its input are lost that say what was sent.
 //!
-//! Only tested: the text of the lines, and whole evenings.
+//! What is written at a look is a total function of the state, of the events since the last look and of what was sent:
+//! `looks_at` of `specs/Looks.antt`, on any paper that reports what is written on it, unless memory runs out
+//! (`teller`). Only tested: that a page of standard error is written so, with its dates, and whole evenings.
 #![tactic(auto)]
 
 mod alone;
@@ -29,14 +31,17 @@ mod course;
 pub mod holding;
 pub mod laws;
 mod log;
+mod made;
 pub mod names;
 pub mod orders;
 mod page;
+mod paper;
 pub mod reasons;
 pub mod refusals;
 pub mod replies;
 mod sent;
 mod states;
+mod teller;
 mod time;
 mod wire;
 

@@ -1,5 +1,6 @@
 //! The lines of attempts: what was recovered, why a preparation was given up, and how an attempt ended.
-ghost use Rattle.std.specs.Prelude.{◌≡◌, IfOk, Some};
+ghost use Rattle.std.specs.Prelude.{◌≡◌, ◌++◌, IfOk, OnOk};
+ghost use Rattle.std.specs.List.{flat_map};
 ghost use Rattle.cue_log_lines.specs.Listed.{failures_text};
 ghost use Rattle.cue_evening.specs.LinesOf as lines;
 
@@ -25,22 +26,45 @@ fn found_of(stage: Stage) -> Found
     }
 }
 
+// Puts an attempt that a recovery found after others.
+fn put_attempt(list: &mut Vec<u8>, attempt: &Attempt) -> Result<(), AllocError>
+    ensures { OnOk result (list.new.items ≡ list.old.items ++ lines.attempt_text attempt.now) }
+{
+    put_found(list, try_of(attempt), found_of(attempt.stage))
+}
+
+// Puts others after it, a semicolon before each.
+fn put_others(list: &mut Vec<u8>, others: &[Attempt]) -> Result<(), AllocError>
+    ensures { OnOk result (list.new.items ≡ list.old.items ++ flat_map lines.next_text others.now) }
+{
+    for attempt in others {
+        put_next(list, attempt)?;
+    }
+    Ok(())
+}
+
+fn put_next(list: &mut Vec<u8>, attempt: &Attempt) -> Result<(), AllocError>
+    ensures { OnOk result (list.new.items ≡ list.old.items ++ lines.next_text attempt.now) }
+{
+    list.extend_from_slice(b"; ")?;
+    put_attempt(list, attempt)
+}
+
 /// The list of the attempts that are live after a recovery.
-pub fn recovered_list(alloc: Global, live: &[Attempt]) -> Result<Vec<u8>, AllocError> {
+pub fn recovered_list(alloc: Global, live: &[Attempt]) -> Result<Vec<u8>, AllocError>
+    ensures { IfOk result (λ list. list.items ≡ lines.recovered_text live.now) }
+{
     let mut list = Vec::new(alloc);
-    for (place, attempt) in live.iter().enumerate() {
-        if place > 0 {
-            list.extend_from_slice(b"; ")?;
-        }
-        put_found(&mut list, try_of(attempt), found_of(attempt.stage))?;
+    if let [first, others @ ..] = live {
+        put_attempt(&mut list, first)?;
+        put_others(&mut list, others)?;
     }
     Ok(list)
 }
 
 // An attempt as a line names it.
 fn try_of(attempt: &Attempt) -> Try
-    ensures number { result.number ≡ attempt.now.seq }
-    ensures cue { result.cue ≡ Some attempt.now.cue }
+    ensures { result ≡ lines.try_of attempt.now }
 {
     Try {
         number: attempt.seq,
@@ -54,19 +78,15 @@ pub fn standby_line<'a>(last: u32, attempt: &Attempt) -> Option<Line<'a>>
     ensures { result ≡ lines.standby_line last attempt.now }
 {
     match named_device(last, attempt) {
-        Some(device) => Some(Line::Alone(
-            Try {
-                number: attempt.seq,
-                cue: Some(attempt.cue),
-            },
-            device,
-        )),
+        Some(device) => Some(Line::Alone(try_of(attempt), device)),
         None => None,
     }
 }
 
 // The device that is done with by an event, since it failed or has given up.
-fn device_of_end(event: &Event) -> Option<DeviceNo> {
+fn device_of_end(event: &Event) -> Option<DeviceNo>
+    ensures { result ≡ lines.device_of_end event.now }
+{
     match event {
         Event::Failed(_, device) | Event::LetGo(_, device) => Some(*device),
         Event::Device(_, _) | Event::NoDevice(_) => None,
@@ -76,9 +96,11 @@ fn device_of_end(event: &Event) -> Option<DeviceNo> {
     }
 }
 
-/// The device by which a preparation was given up, if the event at this place gives it up: the event after it says so.
-pub fn device_of_cancel(events: &[Event], place: usize) -> Option<DeviceNo> {
-    device_of_end(events.get(place.saturating_add(1))?)
+/// The device by which a preparation was given up, by the events after the one that gives it up: the first says so.
+pub fn device_of_cancel(later: &[Event]) -> Option<DeviceNo>
+    ensures { result ≡ lines.device_of_cancel later.now }
+{
+    device_of_end(later.first()?)
 }
 
 // Why a preparation was given up, by a device if it has one.
@@ -118,7 +140,7 @@ fn failures_in(alloc: Global, failures: &[Failure]) -> Result<Vec<u8>, AllocErro
 
 /// The devices that the line of an end names: those that failed after the decision.
 pub fn failures_of(alloc: Global, followed: &Followed) -> Result<Vec<u8>, AllocError>
-    ensures { IfOk result (λ text. text.items ≡ lines.failures_of followed.now.stage followed.now.failures.items) }
+    ensures { IfOk result (λ text. text.items ≡ lines.failures_of followed.now.stage followed.now.failures) }
 {
     match followed.stage {
         Stage::Preparing | Stage::Cancelling(_) => Ok(Vec::new(alloc)),

@@ -1,27 +1,22 @@
 //! The lines of replies.
-ghost use Rattle.std.specs.Prelude.{◌≡◌, ◌≢◌, true, false};
+ghost use Rattle.std.specs.Prelude.{◌≡◌, ◌++◌, ◌∷◌, ◌==◌, [], IfOk, OnOk, option_copied, position, true};
+ghost use Rattle.std.specs.Char.Escape.{escape_ascii};
+ghost use Rattle.std.specs.List.{flat_map};
+ghost use Rattle.std.specs.Option.{option_map};
+ghost use Rattle.cue_exchange.specs.Live.{attempt_of_cue};
 ghost use Rattle.cue_evening.specs.LinesOf as lines;
+ghost use Rattle.cue_evening.specs.Replies as spec;
 
 use crate::busy::{held_device, waiting_devices};
-use crate::names::{push_cues, push_devices, push_numbers};
+use crate::made::push_made;
+use crate::names::{push_between, push_devices, push_number};
 use cue_core::{Code, Event, State};
-use cue_engine::{Reply, Taken};
+use cue_engine::Reply;
 use cue_exchange::Attempt;
 use cue_log_lines::listed::Cause;
 use cue_log_lines::{Asked, Line, Refused, Text};
-use cue_show::{CueNo, DeviceNo, Parts};
+use cue_show::{CueNo, DeviceNo};
 use std::alloc::{AllocError, Global};
-use std::fmt::Write;
-
-// The text of an address, if none of its bytes is escaped in a line, as is known of most.
-fn plain_text(address: &[u8]) -> Option<&str> {
-    let is_plain = |x: &u8| matches!(x, b' '..=b'~') && !matches!(x, b'\\' | b'\'' | b'"');
-    if address.iter().all(is_plain) {
-        str::from_utf8(address).ok()
-    } else {
-        None
-    }
-}
 
 // Whether an address speaks to many.
 fn is_wide(address: &[u8]) -> bool
@@ -84,16 +79,34 @@ pub fn reply_line<'a>(reply: &Reply, is_sent: bool, address: &'a [u8], more: &'a
     )
 }
 
-// The cue that an address names, and the method with its slash.
-fn cue_in(address: &[u8]) -> Option<(CueNo, &[u8])> {
-    let named = address.strip_prefix(b"/cue/".as_slice())?;
-    let end = named.iter().position(|x| *x == b'/')?;
-    let (number, method) = named.split_at_checked(end)?;
+// Where the first slash of a text stands.
+fn slash_in(text: &[u8]) -> Option<usize>
+    ensures { result ≡ position (λ b. b == 47) text.now }
+{
+    text.iter().position(|x| *x == b'/')
+}
+
+// The cue whose number stands before the first slash of a text, and what stands from that on.
+fn cue_before(text: &[u8]) -> Option<(CueNo, &[u8])>
+    ensures { option_map (λ x. (x.0, x.1.now)) result ≡ spec.cue_before text.now (position (λ b. b == 47) text.now) }
+{
+    let slash = slash_in(text)?;
+    let (number, method) = text.split_at_checked(slash)?;
     Some((CueNo::read(number)?, method))
 }
 
+// The cue that an address names, and the method with its slash.
+#[tactic(auto, unfolding(cue_log_lines::specs::Pieces::after))]
+fn cue_in(address: &[u8]) -> Option<(CueNo, &[u8])>
+    ensures { option_map (λ x. (x.0, x.1.now)) result ≡ spec.cue_in address.now }
+{
+    cue_before(address.strip_prefix(b"/cue/".as_slice())?)
+}
+
 /// Why a device fails by what this address asks for.
-pub fn cause_in(address: &[u8]) -> Cause {
+pub fn cause_in(address: &[u8]) -> Cause
+    ensures { result ≡ spec.cause_in address.now }
+{
     if address.ends_with(b"/abort".as_slice()) {
         Cause::Aborted
     } else if address.ends_with(b"/release".as_slice()) {
@@ -103,14 +116,36 @@ pub fn cause_in(address: &[u8]) -> Cause {
     }
 }
 
-// Whether the log says something of a reply: one that made or refused something, or did not leave.
-fn is_told(counts: Taken, is_sent: bool) -> bool
-    ensures made { counts.made ≢ 0 → result ≡ true }
-    ensures refused { counts.refused ≢ 0 → result ≡ true }
-    ensures unsent { is_sent ≡ false → result ≡ true }
-    ensures quiet { counts.made ≡ 0 → counts.refused ≡ 0 → is_sent ≡ true → result ≡ false }
+// Whether a byte stands in a line as it is.
+fn is_plain(byte: u8) -> bool
+    ensures { result ≡ true → escape_ascii byte ≡ byte ∷ [] }
 {
-    counts.made != 0 || counts.refused != 0 || !is_sent
+    matches!(byte, b' '..=b'~') && !matches!(byte, b'\\' | b'\'' | b'"')
+}
+
+// Writes a byte as a terminal may get it.
+fn push_byte(text: &mut Vec<u8>, byte: u8) -> Result<(), AllocError>
+    ensures { OnOk result (text.new.items ≡ text.old.items ++ escape_ascii byte) }
+{
+    if is_plain(byte) {
+        text.push(byte)?;
+        return Ok(());
+    }
+    let mut rest = byte.escape_ascii();
+    while let Some(sign) = rest.next() {
+        text.push(sign)?;
+    }
+    Ok(())
+}
+
+// Writes bytes as a terminal may get them.
+fn push_bytes(text: &mut Vec<u8>, bytes: &[u8]) -> Result<(), AllocError>
+    ensures { OnOk result (text.new.items ≡ text.old.items ++ flat_map escape_ascii bytes.now) }
+{
+    for byte in bytes {
+        push_byte(text, *byte)?;
+    }
+    Ok(())
 }
 
 /// A reply, and what its line adds to its numbers.
@@ -126,167 +161,172 @@ pub struct Answer<'a> {
 }
 
 impl Answer<'_> {
-    /// Whether the log says something of it.
-    pub fn is_told(&self) -> bool {
-        is_told(self.reply.counts, self.is_sent)
+    /// Whether the log says something of it: it made or refused something, or did not leave.
+    pub fn is_told(&self) -> bool
+        ensures { result ≡ spec.is_told self.now.reply.now.counts self.now.is_sent }
+    {
+        let counts = self.reply.counts;
+        counts.made != 0 || counts.refused != 0 || !self.is_sent
     }
 
     /// The address as its line has it.
-    pub fn address(&self, alloc: Global) -> Result<String, AllocError> {
-        let mut text = String::new(alloc);
-        let address = self.reply.address.as_slice();
-        match plain_text(address) {
-            Some("") => text.push_str("-")?,
-            Some(plain) => text.push_str(plain)?,
-            None => write!(text, "{}", address.escape_ascii())?,
+    pub fn address(&self, alloc: Global) -> Result<Vec<u8>, AllocError>
+        ensures { IfOk result (λ text. text.items ≡ spec.address_text self.now.reply.now.address) }
+    {
+        let mut text = Vec::new(alloc);
+        match self.reply.address.as_slice() {
+            [] => text.extend_from_slice(b"-")?,
+            address => push_bytes(&mut text, address)?,
         }
         Ok(text)
     }
 
     /// What was made of the show, or who keeps the command from being made; empty if neither is known.
-    pub fn more(&self, alloc: Global) -> Result<String, AllocError> {
-        let mut more = String::new(alloc);
-        self.push_why(alloc, &mut more)?;
-        self.push_made(alloc, &mut more)?;
+    pub fn more(&self, alloc: Global) -> Result<Vec<u8>, AllocError>
+        ensures { IfOk result (λ text. text.items ≡
+            spec.more_of (option_copied self.now.state) self.now.reply.now self.now.made.now) }
+    {
+        let mut more = Vec::new(alloc);
+        push_why(alloc, &mut more, self.state, self.reply)?;
+        let is_wide = is_wide(self.reply.address.as_slice());
+        push_made(alloc, &mut more, is_wide, self.made)?;
         Ok(more)
     }
+}
 
-    // Who keeps a command at a cue from being made: of a `go` that comes too early the devices that the attempt waits
-    // for, of a busy cue its attempt, or that of its device.
-    fn push_why(&self, alloc: Global, more: &mut String) -> Result<(), AllocError> {
-        let named = (self.state, cue_in(self.reply.address.as_slice()));
-        let (Some(state), Some((cue, method))) = named else {
-            return Ok(());
-        };
-        let is_late = is_refused(self.reply, Code::NotReady) && method == b"/go".as_slice();
-        let is_busy = is_refused(self.reply, Code::Busy)
-            && (method == b"/standby".as_slice() || method == b"/remove".as_slice());
-        match state.live().of_cue(cue) {
-            Some(attempt) if is_late => push_waiting(alloc, more, attempt),
-            Some(attempt) if is_busy => {
-                let number = cue.text().escape_ascii();
-                write!(more, "cue {number} is in attempt {}", attempt.seq)
-            }
-            None if is_busy => push_holder(more, state, cue),
-            Some(_) | None => Ok(()),
-        }
-    }
+// ---- who keeps a command from being made
 
-    // The device and the cue that are new; a message makes one of each at most. If the address speaks to many, also the
-    // devices and the cues that were removed, and the cue that the operator was moved to last.
-    fn push_made(&self, alloc: Global, more: &mut String) -> Result<(), AllocError> {
-        let is_wide = is_wide(self.reply.address.as_slice());
-        let mut devices = Vec::new(alloc);
-        let mut cues = Vec::new(alloc);
-        let mut place = None;
-        for event in self.made {
-            match event {
-                Event::Device(device, port) => push_new_device(more, *device, *port)?,
-                Event::Cue(cue, parts) => push_new_cue(alloc, more, *cue, parts)?,
-                Event::NoDevice(device) if is_wide => devices.push(*device)?,
-                Event::NoCue(cue) if is_wide => cues.push(*cue)?,
-                Event::Place(cue) if is_wide => place = Some(*cue),
-                Event::NoDevice(_) | Event::NoCue(_) | Event::Place(_) => {}
-                Event::Start(_, _, _) | Event::Go(_) | Event::Cancel(_, _) => {}
-                Event::Ready(_, _) | Event::Done(_, _) => {}
-                Event::LetGo(_, _) | Event::Failed(_, _) | Event::Excuse(_, _) => {}
-            }
-        }
-        push_changes(more, &devices, &cues, place)
+/// What keeps a command at a cue from being made.
+#[derive(Clone, Copy)]
+pub enum Hindrance {
+    /// It is a GO, and not every device is ready.
+    Late,
+    /// It is a STANDBY or a removal, and the cue or a device of it is in an attempt.
+    Busy,
+    /// Something else, or nothing.
+    Other,
+}
+
+// What keeps a command with this method from being made.
+fn hindrance_of(reply: &Reply, method: &[u8]) -> Hindrance
+    ensures { result ≡ spec.hindrance_of reply.now method.now }
+{
+    if is_refused(reply, Code::NotReady) && method == b"/go".as_slice() {
+        Hindrance::Late
+    } else if is_refused(reply, Code::Busy)
+        && (method == b"/standby".as_slice() || method == b"/remove".as_slice())
+    {
+        Hindrance::Busy
+    } else {
+        Hindrance::Other
     }
 }
 
-fn push_changes(
-    more: &mut String,
-    devices: &[DeviceNo],
-    cues: &[CueNo],
-    place: Option<CueNo>,
-) -> Result<(), AllocError> {
-    if !devices.is_empty() {
-        push_comma(more)?;
-        push_devices(more, devices)?;
-        more.push_str(" removed")?;
-    }
-    if !cues.is_empty() {
-        push_comma(more)?;
-        push_cues(more, cues)?;
-        more.push_str(" removed")?;
-    }
-    if let Some(cue) = place {
-        push_comma(more)?;
-        write!(more, "the place is cue {}", cue.text().escape_ascii())?;
-    }
-    Ok(())
-}
-
-// Parts what follows from what stands there already.
-fn push_comma(more: &mut String) -> Result<(), AllocError> {
-    if !more.is_empty() {
-        more.push_str(", ")?;
-    }
-    Ok(())
-}
-
-fn push_new_device(more: &mut String, device: DeviceNo, port: u16) -> Result<(), AllocError> {
-    push_comma(more)?;
-    write!(more, "device {} at {port}", device.number())?;
-    Ok(())
-}
-
-// The devices of the parts that are optional, or of those that are required.
-fn devices_of(alloc: Global, parts: &Parts, optional: bool) -> Result<Vec<DeviceNo>, AllocError> {
-    parts
-        .as_slice()
-        .iter()
-        .filter(|x| x.optional == optional)
-        .map(|x| x.device)
-        .collect(alloc)
-}
-
-fn push_new_cue(
+// Who keeps the command of a reply from being made, if its state is known.
+fn push_why(
     alloc: Global,
-    more: &mut String,
-    cue: CueNo,
-    parts: &Parts,
-) -> Result<(), AllocError> {
-    push_comma(more)?;
-    write!(more, "cue {}, ", cue.text().escape_ascii())?;
-    push_devices(more, &devices_of(alloc, parts, false)?)?;
-    let optional = devices_of(alloc, parts, true)?;
-    if !optional.is_empty() {
-        more.push_str(", optional ")?;
-        push_numbers(more, &optional)?;
+    more: &mut Vec<u8>,
+    state: Option<&State>,
+    reply: &Reply,
+) -> Result<(), AllocError>
+    ensures { OnOk result (more.new.items ≡ more.old.items ++ spec.why_of (option_copied state.entry) reply.now) }
+{
+    let Some(state) = state else {
+        return Ok(());
+    };
+    match cue_in(reply.address.as_slice()) {
+        Some((cue, method)) => push_keeper(alloc, more, state, cue, hindrance_of(reply, method)),
+        None => Ok(()),
     }
-    Ok(())
 }
 
-fn push_waiting(alloc: Global, more: &mut String, attempt: &Attempt) -> Result<(), AllocError> {
-    if attempt.stage.is_cancelling() {
-        return more.push_str("the attempt was given up");
+// Who keeps a command at a cue from being made.
+fn push_keeper(
+    alloc: Global,
+    more: &mut Vec<u8>,
+    state: &State,
+    cue: CueNo,
+    hindrance: Hindrance,
+) -> Result<(), AllocError>
+    ensures { OnOk result (more.new.items ≡ more.old.items ++ spec.why_text state.now cue hindrance) }
+{
+    match hindrance {
+        Hindrance::Late => push_late(alloc, more, state.live().of_cue(cue)),
+        Hindrance::Busy => push_busy(more, state, cue),
+        Hindrance::Other => Ok(()),
     }
-    let devices = waiting_devices(alloc, attempt)?;
+}
+
+// Why a GO comes too early.
+fn push_late(alloc: Global, more: &mut Vec<u8>, attempt: Option<&Attempt>) -> Result<(), AllocError>
+    ensures { OnOk result (more.new.items ≡ more.old.items ++ spec.late_text (option_copied attempt.entry)) }
+{
+    match attempt {
+        Some(attempt) if attempt.stage.is_cancelling() => {
+            more.extend_from_slice(b"the attempt was given up")
+        }
+        Some(attempt) => push_waiting(more, &waiting_devices(alloc, attempt)?),
+        None => Ok(()),
+    }
+}
+
+fn push_waiting(more: &mut Vec<u8>, devices: &[DeviceNo]) -> Result<(), AllocError>
+    ensures { OnOk result (more.new.items ≡ more.old.items ++ spec.waiting_for devices.now) }
+{
     if devices.is_empty() {
         return Ok(());
     }
-    more.push_str("waiting for ")?;
-    push_devices(more, &devices)
+    more.extend_from_slice(b"waiting for ")?;
+    push_devices(more, devices)?;
+    Ok(())
+}
+
+// The attempt that a cue is in, else the device of it that is in one.
+fn push_busy(more: &mut Vec<u8>, state: &State, cue: CueNo) -> Result<(), AllocError>
+    ensures { OnOk result (more.new.items ≡
+        more.old.items ++ spec.busy_text state.now cue (attempt_of_cue state.now.live cue)) }
+{
+    match state.live().of_cue(cue) {
+        Some(attempt) => push_taken(more, cue, attempt.seq),
+        None => push_holder(more, state, cue),
+    }
+}
+
+// A cue, and the attempt that it is in.
+#[tactic(auto, unfolding(crate::specs::Replies::taken_text))]
+fn push_taken(more: &mut Vec<u8>, cue: CueNo, seq: u32) -> Result<(), AllocError>
+    ensures { OnOk result (more.new.items ≡ more.old.items ++ spec.taken_text cue seq) }
+{
+    push_between(more, b"cue ", &cue, b" is in attempt ")?;
+    push_number(more, u64::from(seq))
 }
 
 // The device of the cue that is in an attempt, and that attempt.
-fn holder_of(state: &State, cue: CueNo) -> Option<(DeviceNo, &Attempt)> {
+fn holder_of(state: &State, cue: CueNo) -> Option<(DeviceNo, &Attempt)>
+    ensures { option_map (λ x. (x.0, x.1.now)) result ≡ spec.holder_of state.now cue }
+{
     let parts = state.show().parts(cue)?;
     let device = held_device(state.live(), parts.as_slice())?;
     Some((device, state.live().of_device(device)?))
 }
 
-fn push_holder(more: &mut String, state: &State, cue: CueNo) -> Result<(), AllocError> {
+// The same in words.
+fn push_holder(more: &mut Vec<u8>, state: &State, cue: CueNo) -> Result<(), AllocError>
+    ensures { OnOk result (more.new.items ≡ more.old.items ++ spec.holder_text (spec.holder_of state.now cue)) }
+{
     match holder_of(state, cue) {
-        Some((device, attempt)) => {
-            let cue = attempt.cue.text().escape_ascii();
-            let number = device.number();
-            let seq = attempt.seq;
-            write!(more, "device {number} is in attempt {seq} of cue {cue}")
-        }
+        Some((device, attempt)) => push_held(more, device, attempt),
         None => Ok(()),
     }
+}
+
+// A device, and the attempt that it is in.
+#[tactic(auto, unfolding(crate::specs::Replies::held_text))]
+fn push_held(more: &mut Vec<u8>, device: DeviceNo, attempt: &Attempt) -> Result<(), AllocError>
+    ensures { OnOk result (more.new.items ≡ more.old.items ++ spec.held_text device attempt.now) }
+{
+    push_between(more, b"device ", &device, b" is in attempt ")?;
+    push_number(more, u64::from(attempt.seq))?;
+    more.extend_from_slice(b" of cue ")?;
+    more.extend_from_slice(attempt.cue.text())
 }

@@ -1,5 +1,5 @@
 //! A wire that keeps whether what it sends leaves.
-ghost use Rattle.std.specs.Prelude.{◌≡◌};
+ghost use Rattle.std.specs.Prelude.{◌≡◌, []};
 
 use cue_engine::{Wire, WireFault};
 use std::alloc::Global;
@@ -15,7 +15,8 @@ pub struct LoggedWire<W: Wire + Drop> {
 impl<W: Wire + Drop> LoggedWire<W> {
     /// Nothing was sent on this wire.
     pub fn new(alloc: Global, wire: W) -> LoggedWire<W>
-        ensures { result.wire ≡ wire }
+        ensures wire { result.wire ≡ wire }
+        ensures left { result.left.items ≡ [] }
     {
         LoggedWire {
             wire,
@@ -24,13 +25,16 @@ impl<W: Wire + Drop> LoggedWire<W> {
     }
 
     /// Whether each datagram left that was sent since `forget` was called last, in order.
-    pub fn left(&self) -> &[bool] {
+    pub fn left(&self) -> &[bool]
+        ensures { result.now ≡ self.now.left.items }
+    {
         &self.left
     }
 
     /// Forgets what was sent so far.
     pub fn forget(&mut self)
-        ensures { self.new.wire ≡ self.old.wire }
+        ensures wire { self.new.wire ≡ self.old.wire }
+        ensures left { self.new.left.items ≡ [] }
     {
         self.left.clear();
     }

@@ -3,3 +3,5 @@ pub mod DrawingLemmas
 pub mod FailureLemmas
 pub mod LawLemmas
 pub mod PlaceLemmas
+mod HeardLemmas
+mod TextLemmas

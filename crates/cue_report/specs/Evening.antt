@@ -1,5 +1,5 @@
 -- What an evening keeps, and how its times are shown.
-use Rattle.std.specs.Prelude.{ℕ, ℤ, ◌+◌, ◌++◌, min, Bool, not, if◌then◌else◌, List, [], ◌∷◌, length, nat_lt}
+use Rattle.std.specs.Prelude.{ℕ, ℤ, ◌+◌, ◌++◌, ◌&&◌, ◌||◌, min, Bool, false, nat_eq, not, if◌then◌else◌, List, [], ◌∷◌, length, nat_lt}
 use Rattle.std.specs.Prelude.{Option, Some, None, unwrap_or}
 use Rattle.cue_report.specs.Range.{has}
 use Rattle.cue_report.specs.declared.dates.Times.{Times}
@@ -34,3 +34,8 @@ is_outside range ahead before (Some at) = not (has range ahead at)
 -- how times are shown: by the day of the first line
 abbrev pub times : ℤ → Option ℕ → Times
 times ahead first = record { ahead = ahead; first = unwrap_or first 0 }
+
+-- a second is before that of the last line; or it is the same, and that line was one that stood there before
+abbrev pub goes_back : Option ℕ → Bool → ℕ → Bool
+goes_back None repeating at = false
+goes_back (Some last) repeating at = nat_lt at last || (nat_eq at last && repeating)

@@ -12,6 +12,7 @@ pub mod Names
 pub mod Picture
 pub mod Range
 pub mod Reading
+pub mod Repeating
 pub mod Running
 pub mod Seen
 pub mod Summary

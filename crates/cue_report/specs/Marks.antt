@@ -1,5 +1,5 @@
 -- What a mark says of the curtain, and the marks of a file.
-use Rattle.std.specs.Prelude.{ℕ, ℤ, ◌+◌, ◌++◌, min, List, [], ◌∷◌, codes, Option, Some, None, if◌then◌else◌}
+use Rattle.std.specs.Prelude.{◌≡◌, ℕ, ℤ, ◌+◌, ◌++◌, min, List, [], ◌∷◌, codes, Option, Some, None, if◌then◌else◌}
 use Rattle.std.specs.List.{filter}
 use Rattle.cue_show.specs.Number.{same_text}
 use Rattle.cue_report.specs.Range.{has}
@@ -31,3 +31,12 @@ unread_with (Some mark) unread = unread
 -- the marks that are of a part of an evening
 abbrev pub within : Range → ℤ → List Mark → List Mark
 within range ahead marks = filter (λ mark. has range ahead mark.at) marks
+
+-- a line has these words of the curtain after its date, and ends there
+abbrev pub IsLineOf : Curtain → List ℕ → Type 0
+IsLineOf curtain line = (date : List ℕ) × (line ≡ date ++ (codes " " ++ (words curtain ++ codes "\n")))
+
+-- a line of the file was read: it is one mark more at the end, or one more line that is none
+abbrev pub IsRead : List Mark → ℕ → List Mark → ℕ → Type 0
+IsRead marks unread marks_then unread_then =
+    (mark : Option Mark) × (marks_then ≡ with_mark mark marks) × (unread_then ≡ unread_with mark unread)

@@ -1,10 +1,15 @@
 -- What the report tells of all attempts, and what a line makes of it.
-use Rattle.std.specs.Prelude.{ℕ, Bool, false, not, ◌&&◌, ◌++◌, if◌then◌else◌, List, [], ◌∷◌, zero, suc, length, map}
+use Rattle.std.specs.Prelude.{◌≡◌, ℕ, Bool, false, drop, not, ◌&&◌, ◌++◌, if◌then◌else◌, List, [], ◌∷◌, zero, suc, length, map}
 use Rattle.std.specs.Prelude.{Option, Some, None, is_some, nat_eq, nat_lt, option_and_then, slice_get, slice_set}
 use Rattle.std.specs.Prelude.{unwrap_or}
 use Rattle.std.specs.Prelude.{replicate}
 use Rattle.std.specs.BTreeMap.{insert_entry, is_at}
 use Rattle.std.specs.Map.{lookup}
+use Rattle.std.specs.List.{AllByRecursion}
+use Rattle.cue_log_lines.specs.Reading.{read}
+use Rattle.cue_report.specs.Reading.{IsEndOf}
+use Rattle.cue_report.specs.declared.reading.Said.{Said}
+use Rattle.cue_report.specs.declared.reading.Said.TheVariants as said
 use Rattle.std.specs.Ordering.{nat_cmp}
 use Rattle.cue_exchange.specs.declared.attempt.Reason.TheVariants as reason
 use Rattle.cue_log_lines.specs.declared.line.Ended.{Ended as LineOfEnd}
@@ -171,6 +176,39 @@ pub record Heard : Type 0 where
 abbrev pub heard : List Heard → Picture → Picture
 heard [] p = p
 heard (l ∷ ls) p = heard ls (after_line l.at l.by l.answer l.found l.line p)
+
+-- it was heard at this second, and says this
+abbrev pub IsOf : ℕ → Line → Heard → Type 0
+IsOf at x l = (l.at ≡ at) × (l.line ≡ x)
+
+-- what became of the picture is what this line says of attempts, and no other
+abbrev pub Says : ℕ → Line → Picture → Picture → Type 0
+Says at x p q = (ls : List Heard) × AllByRecursion (IsOf at x) ls × (q ≡ heard ls p)
+
+-- the same of what a line of the journal says: beside the lines of the log nothing is said of attempts
+abbrev pub SaysSo : ℕ → Said → Picture → Picture → Type 0
+SaysSo at (said.Line l) p q = Says at l p q
+SaysSo at (said.Ended words) p q = q ≡ p
+
+-- the same at some second
+abbrev pub Told : Said → Picture → Picture → Type 0
+Told s p q = (at : ℕ) × SaysSo at s p q
+
+-- what a text says, with its date before it
+abbrev pub IsIn : List ℕ → Heard → Type 0
+IsIn text l = read (drop 21 text) ≡ Some l.line
+
+-- what became of the picture is what this text says of attempts, if it is a line of the log, and nothing else
+abbrev pub Reads : List ℕ → Picture → Picture → Type 0
+Reads text p q = (ls : List Heard) × AllByRecursion (IsIn text) ls × (q ≡ heard ls p)
+
+-- the same of a text whose end may be a line of its own, since the one before was cut off
+abbrev pub ReadsEnd : List ℕ → Picture → Picture → Type 0
+ReadsEnd text p q = (rest : List ℕ) × IsEndOf text rest × Reads rest p q
+
+-- what became of the picture is what some lines say, one after the other
+abbrev pub Hears : Picture → Picture → Type 0
+Hears p q = (ls : List Heard) × (q ≡ heard ls p)
 
 -- no line was heard
 abbrev pub nothing : Picture

@@ -1,5 +1,5 @@
 -- How long the show ran.
-use Rattle.std.specs.Prelude.{ℕ, ◌+◌, ◌-◌, ◌++◌, max, min, List, [], ◌∷◌, Option, Some, None, option_to_list}
+use Rattle.std.specs.Prelude.{ℕ, ◌+◌, ◌-◌, ◌++◌, max, min, List, [], ◌∷◌, Option, Some, None, length, option_to_list, slice_get}
 use Rattle.cue_report.specs.declared.attempt.Attempt.{Attempt}
 use Rattle.cue_report.specs.declared.attempt.Ended.{Ended}
 use Rattle.cue_report.specs.declared.attempt.Moment.{Moment}
@@ -43,6 +43,16 @@ played_in (Interval stretch) = 0
 abbrev pub played_of : ℕ → List Act → ℕ
 played_of sum [] = sum
 played_of sum (act ∷ rest) = played_of (min (sum + played_in act) 18446744073709551615) rest
+
+-- from a mark to another one, if that is there
+abbrev pub up_to : Mark → Option Mark → Option Stretch
+up_to first None = None
+up_to first (Some last) = Some (record { from = first.at; to = last.at })
+
+-- from the first mark to the last one, if there are two
+abbrev pub whole_of : List Mark → Option Stretch
+whole_of [] = None
+whole_of (first ∷ rest) = up_to first (slice_get rest (length rest - 1))
 
 -- a run that also has this GO and this end
 abbrev pub longer : Option Stretch → ℕ → ℕ → Stretch

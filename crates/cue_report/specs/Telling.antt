@@ -1,6 +1,6 @@
 -- What the report says, in words.
 use Rattle.std.specs.Prelude.{◌≡◌, ◌==◌, ◌++◌, ℕ, Bool, true, false, if◌then◌else◌, List, [], codes, decimal, length, Option, Some, None}
-use Rattle.std.specs.Prelude.{⊤, nat_eq}
+use Rattle.std.specs.Prelude.{⊤, IsTrue, nat_eq}
 use Rattle.cue_exchange.specs.Outcomes.{outcome_number}
 use Rattle.cue_exchange.specs.declared.attempt.Outcome.{Outcome}
 use Rattle.cue_log_lines.specs.declared.line.Count.{Count}
@@ -11,6 +11,7 @@ use Rattle.cue_report.specs.declared.attempt.Ended.{Ended}
 use Rattle.cue_report.specs.declared.attempt.Who.{Who}
 use Rattle.cue_report.specs.declared.attempt.Who.TheVariants as who
 use Rattle.cue_report.specs.declared.course.Course.{Course}
+use Rattle.cue_report.specs.declared.evening.counting.Totals.{Totals}
 use Rattle.cue_report.specs.declared.course.Fate.{Fate}
 use Rattle.cue_report.specs.declared.course.Fate.TheVariants as fate
 
@@ -102,6 +103,12 @@ some_words count kind = if count == 0 then [] else codes ", " ++ (decimal count 
 unfoldable pub unended_words : ℕ → List ℕ
 unended_words count = if count == 0 then [] else codes ", " ++ (decimal count ++ codes " without an end in this log")
 
+-- how many attempts there were, and how many of them ended how
+unfoldable pub totals_words : Totals → List ℕ
+totals_words t =
+    (decimal t.all ++ (codes " " ++ ((if t.all == 1 then codes "attempt" else codes "attempts") ++ (codes ": " ++ (decimal t.complete ++ (codes " complete, " ++ (decimal t.cancelled ++ (codes " cancelled, " ++ (decimal t.failed ++ codes " failed")))))))))
+    ++ unended_words t.unended
+
 -- how long something took that the log says to a tenth of a second
 abbrev pub after_words : Option Span → List ℕ
 after_words None = []
@@ -113,3 +120,11 @@ IsAsker (who.Device device) text = ⊤
 IsAsker (who.Named name) text = ⊤
 IsAsker (who.Port port) text = text ≡ codes "port " ++ decimal port
 IsAsker who.Unseen text = text ≡ []
+
+-- a text begins so; and if what it speaks of has no name, that is all
+abbrev pub IsNamed : List ℕ → List ℕ → List ℕ → Type 0
+IsNamed front name text = (rest : List ℕ) × (text ≡ front ++ rest) × (IsTrue (is_none name) → rest ≡ [])
+
+-- something stands after a text, which stays as it was
+abbrev pub Grows : List ℕ → List ℕ → Type 0
+Grows text new = (more : List ℕ) × (new ≡ text ++ more)

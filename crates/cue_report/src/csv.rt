@@ -2,12 +2,12 @@
 //! RFC 4180: a row ends with carriage return and line feed, the first one has the names of the columns, each has as many
 //! values, and what means something there is between quotation marks. `laws::cells_are_read_back` says what that is good
 //! for.
-ghost use Rattle.std.specs.Prelude.{◌≡◌, ◌++◌, ◌∷◌, ℕ, List, [], OnOk, codes, length, string_bytes};
+ghost use Rattle.std.specs.Prelude.{◌≡◌, ◌++◌, ◌∷◌, ℕ, List, [], IfOk, OnOk, codes, length, string_bytes};
 ghost use Rattle.std.specs.List.{flat_map};
 ghost use Rattle.std.specs.Str.{encode_utf8_all};
 ghost use Rattle.cue_report.specs.Csv as spec;
 ghost use Rattle.cue_report.specs.Drawing.{AreDrawnBy};
-ghost use Rattle.cue_report.specs.Writing.{IsWritten, head_of};
+ghost use Rattle.cue_report.specs.Writing.{IsTable, IsWritten, head_of};
 
 use crate::attempt::Attempt;
 use crate::columns::{Column, TABLE, row_of};
@@ -147,6 +147,7 @@ fn push_rows(
 }
 
 // Puts the first row after a table: the names of its columns, that of the number first.
+#[tactic(auto, unfolding(crate::specs::Writing::head_of))]
 fn push_head(table: &mut String, columns: &[(Column, &str)]) -> Result<(), AllocError>
     ensures { OnOk result (string_bytes table.new ≡
         string_bytes table.old ++ head_of (flat_map (λ column. 44 ∷ column.1.now) columns.now)) }
@@ -157,7 +158,9 @@ fn push_head(table: &mut String, columns: &[(Column, &str)]) -> Result<(), Alloc
 }
 
 /// The whole table: the names of its columns, and a row for each attempt.
-pub fn table_of(told: Told<'_>, evening: &Evening) -> Words {
+pub fn table_of(told: Told<'_>, evening: &Evening) -> Words
+    ensures { IfOk result (λ table. IsTable evening.now.attempts.list.items (string_bytes table)) }
+{
     let mut table = String::new(told.alloc);
     push_head(&mut table, &TABLE)?;
     push_rows(&mut table, told, &TABLE, evening.attempts.list())?;

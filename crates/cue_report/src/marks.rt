@@ -1,5 +1,5 @@
 //! Marks: when the curtain went up and down, as a stage manager writes it into a file beside the log.
-ghost use Rattle.std.specs.Prelude.{◌≡◌, ◌++◌, ◌∷◌, [], IfOk, OnOk};
+ghost use Rattle.std.specs.Prelude.{◌≡◌, [], IfOk, OnOk, string_bytes};
 ghost use Rattle.cue_report.specs.Marks as spec;
 
 use crate::dates::{date_of, dated};
@@ -55,7 +55,9 @@ pub fn read_mark(line: &[u8]) -> Option<Mark> {
 }
 
 /// The line of a mark.
-pub fn mark_line(alloc: Global, mark: Mark) -> Result<String, AllocError> {
+pub fn mark_line(alloc: Global, mark: Mark) -> Result<String, AllocError>
+    ensures { IfOk result (λ line. spec.IsLineOf mark.curtain (string_bytes line)) }
+{
     let date = date_of(alloc, mark.at)?;
     format!(in alloc; "{} {}\n", date.as_str(), mark.curtain.words())
 }
@@ -93,7 +95,9 @@ impl Marks {
     }
 
     /// Reads the next line of the file.
-    pub fn read(&mut self, line: &[u8]) -> Result<(), AllocError> {
+    pub fn read(&mut self, line: &[u8]) -> Result<(), AllocError>
+        ensures { OnOk result (spec.IsRead self.old.list.items self.old.unread self.new.list.items self.new.unread) }
+    {
         self.take(read_mark(line))
     }
 

@@ -1,6 +1,6 @@
 //! Reads a line of the log with its date.
-ghost use Rattle.std.specs.Prelude.{IfOk, IfSome};
-ghost use Rattle.cue_report.specs.Reading.{IsSaidBy};
+ghost use Rattle.std.specs.Prelude.{◌≡◌, IfOk, IfSome, true};
+ghost use Rattle.cue_report.specs.Reading.{IsEndOf, IsSaidBy, IsStart};
 
 use crate::dates::{DATE, dated};
 use cue_log_lines::Line;
@@ -56,7 +56,9 @@ pub fn read(alloc: Global, line: &[u8]) -> Result<Option<Dated<'_>>, AllocError>
 const START: &[u8] = b"Z cuectl: ready, ";
 
 // Whether it is the line of a start.
-fn is_start(alloc: Global, line: &[u8]) -> Result<bool, AllocError> {
+fn is_start(alloc: Global, line: &[u8]) -> Result<bool, AllocError>
+    ensures { IfOk result (λ it. it ≡ true → IsStart line.now) }
+{
     match read(alloc, line)? {
         Some(
             Dated {
@@ -69,7 +71,9 @@ fn is_start(alloc: Global, line: &[u8]) -> Result<bool, AllocError> {
 }
 
 // What could be the line of a start that stands after the front of another line, which has no end.
-fn start_in(line: &[u8]) -> Option<&[u8]> {
+fn start_in(line: &[u8]) -> Option<&[u8]>
+    ensures { IfSome result (λ start. IsEndOf line.now start.now) }
+{
     if !line.last()?.is_ascii_digit() {
         return None;
     }
@@ -80,7 +84,10 @@ fn start_in(line: &[u8]) -> Option<&[u8]> {
 }
 
 /// The line of a start that stands after the front of another line, which has no end; none if there is none.
-pub fn start_within(alloc: Global, line: &[u8]) -> Result<Option<&[u8]>, AllocError> {
+pub fn start_within(alloc: Global, line: &[u8]) -> Result<Option<&[u8]>, AllocError>
+    ensures end { IfOk result (λ found. IfSome found (λ start. IsEndOf line.now start.now)) }
+    ensures start { IfOk result (λ found. IfSome found (λ start. IsStart start.now)) }
+{
     match start_in(line) {
         Some(start) if is_start(alloc, start)? => Ok(Some(start)),
         _ => Ok(None),

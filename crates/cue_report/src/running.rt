@@ -92,13 +92,18 @@ pub fn played_of(acts: &[Act]) -> u64
 }
 
 /// From the first mark to the last one; none if there are fewer than two.
-pub fn whole_of(marks: &[Mark]) -> Option<Stretch> {
+pub fn whole_of(marks: &[Mark]) -> Option<Stretch>
+    ensures { result ≡ spec.whole_of marks.now }
+{
     match marks {
-        [first, .., last] => Some(Stretch {
-            from: first.at,
-            to: last.at,
-        }),
-        _ => None,
+        [first, rest @ ..] => match rest.last() {
+            Some(last) => Some(Stretch {
+                from: first.at,
+                to: last.at,
+            }),
+            None => None,
+        },
+        [] => None,
     }
 }
 

@@ -1,8 +1,9 @@
 //! What the report says, in words: the same in each of its forms.
-ghost use Rattle.std.specs.Prelude.{◌≡◌, [], IfNone, IfOk, IsTrue, OnOk, string_bytes};
+ghost use Rattle.std.specs.Prelude.{◌≡◌, ◌++◌, [], codes, decimal, IfNone, IfOk, IsTrue, OnOk, string_bytes};
 ghost use Rattle.std.specs.List.{list_all};
 ghost use Rattle.std.specs.Str.{chars};
 ghost use Rattle.cue_words.specs.Signs.{is_shown};
+ghost use Rattle.cue_report.specs.Names as names;
 ghost use Rattle.cue_report.specs.Seen as seen;
 ghost use Rattle.cue_report.specs.Telling as spec;
 
@@ -121,7 +122,10 @@ impl Told<'_> {
     }
 
     /// A device with its name: `device 4 "Lamp"`.
-    pub fn device(self, device: DeviceNo) -> Words {
+    pub fn device(self, device: DeviceNo) -> Words
+        ensures { IfOk result (λ text. spec.IsNamed (codes "device " ++ decimal device)
+            (names.device_name self.entry.names.now device) (string_bytes text)) }
+    {
         let name = self.quoted(self.names.device_name(&device))?;
         format!(in self.alloc; "device {}{}", device.number(), name.as_str())
     }

@@ -1,5 +1,5 @@
 //! What became of each cue of the show file.
-ghost use Rattle.std.specs.Prelude.{◌≡◌};
+ghost use Rattle.std.specs.Prelude.{◌≡◌, IfOk};
 ghost use Rattle.cue_report.specs.Summary as spec;
 
 use crate::attempt::Attempt;
@@ -53,7 +53,9 @@ pub fn tallies(
     alloc: Global,
     names: &Names,
     attempts: &[Attempt],
-) -> Result<Vec<Option<Tally>>, AllocError> {
+) -> Result<Vec<Option<Tally>>, AllocError>
+    ensures { IfOk result (λ tallies. tallies.items ≡ spec.tallies names.now attempts.now) }
+{
     let mut tallies = vec![in alloc; None; names.count()]?;
     for (number, attempt) in attempts.iter().enumerate() {
         count_at(&mut tallies, given_place(names, attempt), number);

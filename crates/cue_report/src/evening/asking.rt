@@ -1,7 +1,10 @@
 //! Who asks, and for what.
-ghost use Rattle.std.specs.Prelude.{◌≡◌, IsTrue, OnOk, Some, nat_eq};
+ghost use Rattle.std.specs.Prelude.{◌≡◌, ◌-◌, ◌==◌, OnOk, Some, is_some, nat_eq, position};
 ghost use Rattle.std.specs.HashMap.{get, IsEmpty};
+ghost use Rattle.std.specs.Option.{option_map};
+ghost use Rattle.cue_operator.specs.LookUp.{device_named, number_at};
 ghost use Rattle.cue_report.specs.Asking as spec;
+ghost use Rattle.cue_report.specs.declared.attempt.Who.TheVariants.{Unseen};
 
 use crate::attempt::Who;
 use cue_asker::AskerName;
@@ -9,8 +12,9 @@ use cue_log_lines::{Line, Ordered};
 use cue_operator::{CueVerb, DeviceVerb};
 use cue_show::limits::MAX_DEVICES;
 use cue_show::{CueNo, DeviceNo};
+use itoa::Buffer;
 use std::alloc::{AllocError, Global};
-use std::collections::{HashMap, VecDeque};
+use std::collections::HashMap;
 
 /// How many commands of one second are known: a datagram carries fewer.
 const MOST: usize = 256;
@@ -18,45 +22,100 @@ const MOST: usize = 256;
 /// For how many seconds a port has the name that was sent from it.
 const NAMED: u64 = 10;
 
+// Where the first slash of a text stands.
+fn slash_in(text: &[u8]) -> Option<usize>
+    ensures { result ≡ position (λ b. b == 47) text.now }
+{
+    text.iter().position(|x| *x == b'/')
+}
+
+// The two parts of a text: what stands before its first slash, and what stands after it.
+fn parts_of(text: &[u8]) -> Option<(&[u8], &[u8])>
+    ensures { option_map (λ x. (x.0.now, x.1.now)) result ≡ spec.parts_at text.now (position (λ b. b == 47) text.now) }
+{
+    let slash = slash_in(text)?;
+    Some((text.get(..slash)?, text.get(slash + 1..)?))
+}
+
 // The two parts after the front of an address.
-fn parts_after<'a>(address: &'a [u8], front: &[u8]) -> Option<(&'a [u8], &'a [u8])> {
-    let named = address.strip_prefix(front)?;
-    let end = named.iter().position(|x| *x == b'/')?;
-    let (name, verb) = named.split_at_checked(end)?;
-    Some((name, verb.strip_prefix(b"/".as_slice())?))
+#[tactic(auto, unfolding(cue_log_lines::specs::Pieces::after))]
+fn parts_after<'a>(address: &'a [u8], front: &[u8]) -> Option<(&'a [u8], &'a [u8])>
+    ensures { option_map (λ x. (x.0.now, x.1.now)) result ≡ spec.parts_after front.now address.now }
+{
+    parts_of(address.strip_prefix(front)?)
+}
+
+// The cue that a text is the number of.
+fn cue_in(text: &[u8]) -> Option<CueNo>
+    ensures { result ≡ spec.cue_in text.now }
+{
+    CueNo::read(text)
 }
 
 /// What an address asks of a cue; of no cue, if it speaks to more than one.
-pub fn verb_at(address: &[u8]) -> Option<(CueVerb, Option<CueNo>)> {
+pub fn verb_at(address: &[u8]) -> Option<(CueVerb, Option<CueNo>)>
+    ensures { result ≡ spec.verb_at address.now }
+{
     let (name, verb) = parts_after(address, b"/cue/")?;
-    match CueVerb::of(verb) {
-        Some(verb) => Some((verb, CueNo::read(name))),
-        None => None,
-    }
+    let verb = CueVerb::of(verb)?;
+    Some((verb, cue_in(name)))
 }
 
-// The device with the number that a text is.
-fn device_in(text: &[u8]) -> Option<DeviceNo> {
-    DeviceNo::of(str::from_utf8(text).ok()?.parse::<i32>().ok()?)
+// A digit of a number.
+fn digit(byte: u8) -> u16
+    ensures { result ≡ byte - 48 }
+{
+    u16::from(byte.saturating_sub(b'0'))
 }
 
-// What a device says at an address, or what is asked of it.
-fn word_at(address: &[u8]) -> Option<(DeviceVerb, DeviceNo)> {
-    let (name, word) = parts_after(address, b"/device/")?;
-    match (DeviceVerb::of(word), device_in(name)) {
-        (Some(word), Some(device)) => Some((word, device)),
+// The number that one to three digits write.
+fn number_in(text: &[u8]) -> Option<u16>
+    ensures { result ≡ number_at text.now }
+{
+    match text {
+        [ones] => Some(digit(*ones)),
+        [tens, ones] => Some(digit(*tens) * 10 + digit(*ones)),
+        [hundreds, tens, ones] => {
+            Some(digit(*hundreds) * 100 + digit(*tens) * 10 + digit(*ones))
+        }
         _ => None,
     }
 }
 
+// The device whose number a text is, in decimal and with no zero in front.
+fn device_in(text: &[u8]) -> Option<DeviceNo>
+    ensures { result ≡ device_named text.now }
+{
+    let device = DeviceNo::of(i32::from(number_in(text)?))?;
+    let mut digits = Buffer::new();
+    if digits.format(device.number()).as_bytes() == text {
+        Some(device)
+    } else {
+        None
+    }
+}
+
+// What a device says at an address, or what is asked of it.
+fn word_at(address: &[u8]) -> Option<(DeviceVerb, DeviceNo)>
+    ensures { result ≡ spec.word_at address.now }
+{
+    let (name, word) = parts_after(address, b"/device/")?;
+    let word = DeviceVerb::of(word)?;
+    Some((word, device_in(name)?))
+}
+
 /// The device that an address names.
-pub fn device_at(address: &[u8]) -> Option<DeviceNo> {
+pub fn device_at(address: &[u8]) -> Option<DeviceNo>
+    ensures { result ≡ spec.device_at address.now }
+{
     let (_, device) = word_at(address)?;
     Some(device)
 }
 
 /// What a reply says that a device has answered, or that is asked of it, if it made something.
-pub fn answer_in(line: &Line<'_>) -> Option<(DeviceVerb, DeviceNo)> {
+pub fn answer_in(line: &Line<'_>) -> Option<(DeviceVerb, DeviceNo)>
+    ensures { result ≡ spec.answer_in line.now }
+{
     match line {
         Line::Replied(reply, _) if reply.made != 0 => word_at(reply.address.bytes()),
         _ => None,
@@ -64,7 +123,10 @@ pub fn answer_in(line: &Line<'_>) -> Option<(DeviceVerb, DeviceNo)> {
 }
 
 /// The name that an address gives its asker.
-pub fn name_at(address: &[u8]) -> Option<AskerName> {
+#[tactic(auto, unfolding(cue_log_lines::specs::Pieces::after))]
+pub fn name_at(address: &[u8]) -> Option<AskerName>
+    ensures { is_some result ≡ spec.gives_name address.now }
+{
     AskerName::read(address.strip_prefix(b"/as/".as_slice())?)
 }
 
@@ -84,7 +146,7 @@ pub struct Asking {
     devices: HashMap<u16, DeviceNo>,
     ports: [u16; MAX_DEVICES],
     // The last ones of the newest second.
-    made: VecDeque<Made>,
+    made: Vec<Made>,
 }
 
 // The name that a port has at a second: it was sent ten seconds before at most.
@@ -128,10 +190,22 @@ fn is_of(made: Option<CueNo>, cue: Option<CueNo>) -> bool
 
 // Whether a command is the one that is meant: it was made in this second, of this cue or of several.
 fn is_meant(made: &Made, verb: CueVerb, cue: &Option<CueNo>, at: u64) -> bool
-    ensures moment { IsTrue result → made.now.at ≡ at }
-    ensures cue { IsTrue result → IsTrue (spec.is_of made.now.cue cue.now) }
+    ensures { result ≡ spec.is_meant verb cue.now at made.now }
 {
-    made.verb == verb && made.at == at && is_of(made.cue, *cue)
+    made.verb.text() == verb.text() && made.at == at && is_of(made.cue, *cue)
+}
+
+// Who asked for a command that is meant: the last one.
+fn asker_in(all: &[Made], verb: CueVerb, cue: &Option<CueNo>, at: u64) -> Who
+    ensures { result ≡ spec.asker_in verb cue.now at Unseen all.now }
+{
+    let mut by = Who::Unseen;
+    for made in all {
+        if is_meant(made, verb, cue, at) {
+            by = made.by;
+        }
+    }
+    by
 }
 
 impl Asking {
@@ -143,7 +217,7 @@ impl Asking {
             names: HashMap::new(alloc),
             devices: HashMap::new(alloc),
             ports: [0; MAX_DEVICES],
-            made: VecDeque::new(alloc),
+            made: Vec::new(alloc),
         }
     }
 
@@ -194,9 +268,11 @@ impl Asking {
         asker_at(device, self.name_of(port, at), listens, port)
     }
 
-    /// A command was made: those of the seconds before are of no use any more.
-    pub fn made(&mut self, made: &Made) -> Result<(), AllocError> {
-        let is_old = match self.made.back() {
+    /// A command was made: it is the newest. Those of the seconds before are of no use any more.
+    pub fn made(&mut self, made: &Made) -> Result<(), AllocError>
+        ensures { OnOk result (spec.IsLast made.now self.new.made.items) }
+    {
+        let is_old = match self.made.last() {
             Some(last) => last.at != made.at,
             None => false,
         };
@@ -204,22 +280,16 @@ impl Asking {
             self.made.clear();
         }
         if self.made.len() >= MOST {
-            let _ = self.made.pop_front();
+            let _ = self.made.remove(0);
         }
-        self.made.push_back(*made)?;
+        self.made.push(*made)?;
         Ok(())
     }
 
     /// Who asked for this of a cue at this second: the last one, in this very second, else nobody who is seen.
-    pub fn asker(&self, verb: CueVerb, cue: &Option<CueNo>, at: u64) -> Who {
-        let found = self
-            .made
-            .iter()
-            .rev()
-            .find(|made| is_meant(made, verb, cue, at));
-        match found {
-            Some(made) => made.by,
-            None => Who::Unseen,
-        }
+    pub fn asker(&self, verb: CueVerb, cue: &Option<CueNo>, at: u64) -> Who
+        ensures { result ≡ spec.asker_in verb cue.now at Unseen self.now.made.items }
+    {
+        asker_in(&self.made, verb, cue, at)
     }
 }

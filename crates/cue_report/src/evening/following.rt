@@ -1,8 +1,8 @@
 //! Follows what the lines say.
-ghost use Rattle.std.specs.Prelude.{◌≡◌, None};
+ghost use Rattle.std.specs.Prelude.{◌≡◌, OnOk};
 ghost use Rattle.cue_report.specs.Asking as spec;
-ghost use Rattle.cue_report.specs.Picture.{picture};
-ghost use Rattle.cue_report.specs.declared.attempt.Who.TheVariants.{Unseen};
+ghost use Rattle.cue_log_lines.specs.declared.line.Line.TheVariants.{Recovered};
+ghost use Rattle.cue_report.specs.Picture.{Says, SaysSo, picture};
 
 use super::asking::answer_in;
 use super::{Done, Evening};
@@ -44,12 +44,15 @@ fn asked_for(line: &Line<'_>) -> Option<(CueVerb, Option<CueNo>)>
 
 impl Evening {
     /// Takes what a line says. `before` is the second of the line before it.
+    #[tactic(auto, using(crate::proofs::HeardLemmas::says_none))]
     pub(super) fn take(
         &mut self,
         at: u64,
         before: Option<u64>,
         said: &Said<'_>,
-    ) -> Result<(), AllocError> {
+    ) -> Result<(), AllocError>
+        ensures { OnOk result (SaysSo at said.now (picture self.old.attempts) (picture self.new.attempts)) }
+    {
         let silent = if self.is_running { before } else { None };
         // What it says of itself may also be said beside it.
         let is_beside = matches!(
@@ -69,7 +72,7 @@ impl Evening {
 
     // Who asked for what a line says.
     fn asker_of(&self, at: u64, line: &Line<'_>) -> Who
-        ensures { spec.asked_for line.now ≡ None → result ≡ Unseen }
+        ensures { result ≡ spec.asker_of self.now.asking.made.items at line.now }
     {
         match asked_for(line) {
             Some((verb, cue)) => self.asking.asker(verb, &cue, at),
@@ -78,14 +81,20 @@ impl Evening {
     }
 
     // Takes a line of the log: what it says of attempts, and all else.
-    fn take_line(&mut self, at: u64, line: &Line<'_>) -> Result<(), AllocError> {
+    fn take_line(&mut self, at: u64, line: &Line<'_>) -> Result<(), AllocError>
+        ensures { OnOk result (Says at line.now (picture self.old.attempts) (picture self.new.attempts)) }
+    {
         let by = self.asker_of(at, line);
         self.attempts.take(at, &by, answer_in(line), line)?;
-        self.follow(at, line)
+        self.follow(at, line)?;
+        Ok(())
     }
 
     // Takes what a line says beside that: the attempts that a start has, and what is no attempt.
-    fn follow(&mut self, at: u64, line: &Line<'_>) -> Result<(), AllocError> {
+    #[tactic(auto, using(crate::proofs::HeardLemmas::says_none))]
+    fn follow(&mut self, at: u64, line: &Line<'_>) -> Result<(), AllocError>
+        ensures { OnOk result (Says at line.now (picture self.old.attempts) (picture self.new.attempts)) }
+    {
         match line {
             Line::Stopped => self.stop(at),
             Line::Own(said) => self.say(at, "", said.bytes()),
@@ -148,11 +157,23 @@ impl Evening {
         self.deeds.push(Done { at, said })
     }
 
-    // It says what was live when it began.
-    fn recover(&mut self, at: u64, list: &[u8]) -> Result<(), AllocError> {
+    // Takes what was live when it began.
+    #[tactic(auto, using(crate::proofs::HeardLemmas::says_none, crate::proofs::HeardLemmas::says_then, crate::proofs::HeardLemmas::says_found))]
+    fn take_found(&mut self, at: u64, list: &[u8]) -> Result<(), AllocError>
+        ensures { OnOk result (Says at (Recovered list.now) (picture self.old.attempts) (picture self.new.attempts)) }
+    {
         for said in list.split(|byte| *byte == b';') {
             self.attempts.take_found(at, found_in(said.trim_ascii()))?;
         }
-        self.say(at, "recovered: ", list)
+        Ok(())
+    }
+
+    // It says what was live when it began.
+    fn recover(&mut self, at: u64, list: &[u8]) -> Result<(), AllocError>
+        ensures { OnOk result (Says at (Recovered list.now) (picture self.old.attempts) (picture self.new.attempts)) }
+    {
+        self.take_found(at, list)?;
+        self.say(at, "recovered: ", list)?;
+        Ok(())
     }
 }

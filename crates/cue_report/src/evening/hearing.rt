@@ -1,7 +1,8 @@
 //! Hears the bytes of a log, line by line.
-ghost use Rattle.std.specs.Prelude.{◌≡◌, false, not, true};
+ghost use Rattle.std.specs.Prelude.{◌≡◌, ◌&&◌, OnOk, false, not, true};
 ghost use Rattle.cue_report.specs.Evening as spec;
-ghost use Rattle.cue_report.specs.Picture.{picture};
+ghost use Rattle.cue_report.specs.Picture.{Hears, Reads, ReadsEnd, Told, picture};
+ghost use Rattle.cue_report.specs.Repeating as repeats;
 ghost use Rattle.cue_report.specs.Range.{has};
 
 use super::Evening;
@@ -17,28 +18,55 @@ fn without_return(line: &[u8]) -> &[u8] {
     }
 }
 
+// Whether a second is before that of the last line; or it is the same, and that line was one that stood there before.
+fn goes_back(last: Option<u64>, is_repeating: bool, at: u64) -> bool
+    ensures { result ≡ spec.goes_back last is_repeating at }
+{
+    match last {
+        Some(last) => at < last || (at == last && is_repeating),
+        None => false,
+    }
+}
+
 impl Evening {
     /// Hears the next bytes of the log, of any number.
-    pub fn hear(&mut self, bytes: &[u8]) -> Result<(), AllocError> {
+    pub fn hear(&mut self, bytes: &[u8]) -> Result<(), AllocError>
+        ensures { OnOk result (Hears (picture self.old.attempts) (picture self.new.attempts)) }
+    {
         for (place, piece) in bytes.split(|byte| *byte == b'\n').enumerate() {
-            if place > 0 {
-                self.end_line()?;
-            }
-            self.cutter.push(piece)?;
+            self.hear_piece(place, piece)?;
         }
         Ok(())
     }
 
+    // Hears the next piece of a line: of the next line, if it is not the first piece.
+    #[tactic(auto, using(crate::proofs::HeardLemmas::hears_none))]
+    fn hear_piece(&mut self, place: usize, piece: &[u8]) -> Result<(), AllocError>
+        ensures { OnOk result (Hears (picture self.old.attempts) (picture self.new.attempts)) }
+    {
+        if place > 0 {
+            self.end_line()?;
+        }
+        self.cutter.push(piece)?;
+        Ok(())
+    }
+
     /// The log has ended. A last line without an end is heard, too.
-    pub fn finish(&mut self) -> Result<(), AllocError> {
+    #[tactic(auto, using(crate::proofs::HeardLemmas::hears_none))]
+    pub fn finish(&mut self) -> Result<(), AllocError>
+        ensures { OnOk result (Hears (picture self.old.attempts) (picture self.new.attempts)) }
+    {
         if self.cutter.is_empty() {
             return Ok(());
         }
-        self.end_line()
+        self.end_line()?;
+        Ok(())
     }
 
     // Hears the line that is there, and begins the next one.
-    fn end_line(&mut self) -> Result<(), AllocError> {
+    fn end_line(&mut self) -> Result<(), AllocError>
+        ensures { OnOk result (Hears (picture self.old.attempts) (picture self.new.attempts)) }
+    {
         let mut cutter = std::mem::replace(&mut self.cutter, Cutter::new(self.alloc));
         let heard = match cutter.line() {
             Some(line) => self.hear_line(without_return(line)),
@@ -59,16 +87,18 @@ impl Evening {
     }
 
     // Whether a line was heard a moment ago and goes back in time, or follows one that does.
-    fn is_repeated(&self, line: &[u8], at: u64) -> bool {
-        let Some(last) = self.last else {
-            return false;
-        };
-        let goes_back = at < last || (at == last && self.is_repeating);
-        goes_back && self.repeats.knows(line)
+    fn is_repeated(&self, line: &[u8], at: u64) -> bool
+        ensures { result ≡ (spec.goes_back self.now.last self.now.is_repeating at
+            && repeats.knows self.now.repeats.last.items line.now) }
+    {
+        goes_back(self.last, self.is_repeating, at) && self.repeats.knows(line)
     }
 
     // Hears a line. If a start begins within it, the line before that was cut off, as on a full disk.
-    fn hear_line(&mut self, line: &[u8]) -> Result<(), AllocError> {
+    #[tactic(auto, using(crate::proofs::HeardLemmas::reads_all, crate::proofs::HeardLemmas::reads_end))]
+    fn hear_line(&mut self, line: &[u8]) -> Result<(), AllocError>
+        ensures { OnOk result (ReadsEnd line.now (picture self.old.attempts) (picture self.new.attempts)) }
+    {
         match start_within(self.alloc, line)? {
             Some(start) => {
                 self.pass_over()?;
@@ -78,7 +108,11 @@ impl Evening {
         }
     }
 
-    fn hear_whole(&mut self, line: &[u8]) -> Result<(), AllocError> {
+    // Hears a line, if it is one of the log.
+    #[tactic(auto, using(crate::proofs::HeardLemmas::reads_none, crate::proofs::HeardLemmas::reads_told))]
+    fn hear_whole(&mut self, line: &[u8]) -> Result<(), AllocError>
+        ensures { OnOk result (Reads line.now (picture self.old.attempts) (picture self.new.attempts)) }
+    {
         match read(self.alloc, line)? {
             Some(said) => self.hear_said(line, &said),
             None => self.pass_over(),
@@ -113,8 +147,10 @@ impl Evening {
     }
 
     // Hears what a line without a date says: it is told, if the line before it is.
+    #[tactic(auto, using(crate::proofs::HeardLemmas::told_none, crate::proofs::HeardLemmas::told_at))]
     fn hear_undated(&mut self, said: &Said<'_>) -> Result<(), AllocError>
         ensures left_out { self.old.is_outside ≡ true → picture self.new.attempts ≡ picture self.old.attempts }
+        ensures told { OnOk result (Told said.now (picture self.old.attempts) (picture self.new.attempts)) }
     {
         if self.is_outside {
             self.leave_out();
@@ -126,9 +162,11 @@ impl Evening {
     }
 
     // Hears what a line of a second says, if it is told.
+    #[tactic(auto, using(crate::proofs::HeardLemmas::told_none, crate::proofs::HeardLemmas::told_at))]
     fn hear_dated(&mut self, line: &[u8], at: u64, said: &Said<'_>) -> Result<(), AllocError>
         ensures left_out { has self.old.range self.old.ahead at ≡ false →
             picture self.new.attempts ≡ picture self.old.attempts }
+        ensures told { OnOk result (Told said.now (picture self.old.attempts) (picture self.new.attempts)) }
     {
         if !self.is_new(line, at) {
             return Ok(());
@@ -145,6 +183,7 @@ impl Evening {
     fn hear_said(&mut self, line: &[u8], said: &Dated<'_>) -> Result<(), AllocError>
         ensures left_out { spec.is_outside self.old.range self.old.ahead self.old.is_outside said.now.at ≡ true →
             picture self.new.attempts ≡ picture self.old.attempts }
+        ensures told { OnOk result (Told said.now.said (picture self.old.attempts) (picture self.new.attempts)) }
     {
         match said.at {
             Some(at) => self.hear_dated(line, at, &said.said),

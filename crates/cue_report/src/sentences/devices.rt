@@ -1,44 +1,75 @@
 //! What the report says of the devices of an attempt.
-ghost use Rattle.std.specs.Prelude.{◌≡◌, IfOk, string_bytes};
+ghost use Rattle.std.specs.Prelude.{◌≡◌, IfOk, OnOk, length, string_bytes};
 ghost use Rattle.cue_report.specs.Following as following;
 ghost use Rattle.cue_report.specs.Telling as spec;
 
 use super::{Told, Words, ending_words, push_piece};
 use crate::attempt::Attempt;
 use crate::course::{Course, Fate};
+use cue_show::DeviceNo;
 use std::alloc::{AllocError, Global};
 
+// Puts a device after a text, with these words before it.
+#[tactic(auto, using(crate::proofs::TextLemmas::grows_none, crate::proofs::TextLemmas::grows_by))]
+fn push_device(
+    told: Told<'_>,
+    text: &mut String,
+    front: &str,
+    device: DeviceNo,
+) -> Result<(), AllocError>
+    ensures { OnOk result (spec.Grows (string_bytes text.old) (string_bytes text.new)) }
+{
+    text.push_str(front)?;
+    text.push_str(told.device(device)?.as_str())?;
+    Ok(())
+}
+
 // Puts the devices with a fate that is meant after a text, the first with these words before it.
+#[tactic(auto, using(crate::proofs::TextLemmas::grows_none, crate::proofs::TextLemmas::grows_by))]
 fn push_devices(
     told: Told<'_>,
     text: &mut String,
     front: &str,
     devices: &[Course],
     is_failed: bool,
-) -> Result<(), AllocError> {
-    let mut front = front;
+) -> Result<(), AllocError>
+    ensures { OnOk result (spec.Grows (string_bytes text.old) (string_bytes text.new)) }
+{
+    let mut is_first = true;
     for course in devices {
         if course.fate.is_failed() == is_failed && course.fate != Fate::Well {
-            text.push_str(front)?;
-            text.push_str(told.device(course.device)?.as_str())?;
-            front = ", ";
+            let before = if is_first { front } else { ", " };
+            push_device(told, text, before, course.device)?;
+            is_first = false;
         }
     }
     Ok(())
 }
 
 /// How an attempt ended, and why: `complete, without device 4 "Lamp"`.
-pub fn end_words(told: Told<'_>, attempt: &Attempt) -> Words {
+#[tactic(auto, using(crate::proofs::TextLemmas::grows_none, crate::proofs::TextLemmas::grows_then))]
+pub fn end_words(told: Told<'_>, attempt: &Attempt) -> Words
+    ensures { IfOk result (λ text. spec.Grows (spec.ending_words attempt.now.ended) (string_bytes text)) }
+{
     let mut text = String::from_str(told.alloc, ending_words(attempt.ended))?;
-    if !attempt.why.is_empty() {
-        text.push_str(": ")?;
-        text.push_str(attempt.why.as_str())?;
-    }
+    push_why(&mut text, attempt.why.as_str())?;
     if attempt.given.is_some() {
         push_devices(told, &mut text, ", by ", &attempt.devices, true)?;
         push_devices(told, &mut text, ", without ", &attempt.devices, false)?;
     }
     Ok(text)
+}
+
+// Puts why it ended after a text, if that is known.
+#[tactic(auto, using(crate::proofs::TextLemmas::grows_none, crate::proofs::TextLemmas::grows_by))]
+fn push_why(text: &mut String, why: &str) -> Result<(), AllocError>
+    ensures { OnOk result (spec.Grows (string_bytes text.old) (string_bytes text.new)) }
+{
+    if !why.is_empty() {
+        text.push_str(": ")?;
+        text.push_str(why)?;
+    }
+    Ok(())
 }
 
 // What became of a device, in words; empty if nothing befell it.
@@ -105,7 +136,9 @@ fn course_words(alloc: Global, course: &Course, was_given: bool) -> Words
 }
 
 /// What each device of an attempt did: `device 4 "Lamp": prepared in 1 s, moved in 4 s`.
-pub fn courses_words(told: Told<'_>, attempt: &Attempt) -> Result<Vec<String>, AllocError> {
+pub fn courses_words(told: Told<'_>, attempt: &Attempt) -> Result<Vec<String>, AllocError>
+    ensures { IfOk result (λ all. length all.items ≡ length attempt.now.devices.items) }
+{
     let mut all = Vec::new(told.alloc);
     for course in attempt.devices.iter() {
         let mut text = told.device(course.device)?;

@@ -52,21 +52,21 @@ pub fn span_words(told: Told<'_>, evening: &Evening) -> Words {
 }
 
 /// How many attempts ended how.
-pub fn totals_words(alloc: Global, totals: Totals) -> Words {
-    let unended = unended_words(alloc, totals.unended)?;
+#[tactic(auto, unfolding(crate::specs::Telling::totals_words))]
+pub fn totals_words(alloc: Global, totals: Totals) -> Words
+    ensures { IfOk result (λ text. string_bytes text ≡ spec.totals_words totals) }
+{
     let word = if totals.all == 1 {
         "attempt"
     } else {
         "attempts"
     };
-    format!(in alloc;
-        "{} {word}: {} complete, {} cancelled, {} failed{}",
-        totals.all,
-        totals.complete,
-        totals.cancelled,
-        totals.failed,
-        unended.as_str()
-    )
+    let mut text = format!(in alloc;
+        "{} {word}: {} complete, {} cancelled, {} failed",
+        totals.all, totals.complete, totals.cancelled, totals.failed
+    )?;
+    text.push_str(unended_words(alloc, totals.unended)?.as_str())?;
+    Ok(text)
 }
 
 // So many attempts without an end, after a comma; nothing if there is none.

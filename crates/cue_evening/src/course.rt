@@ -234,9 +234,10 @@ fn follow_in(alloc: Global, items: &mut Vec<Followed>, live: &[Attempt]) -> Resu
 pub fn given_up(event: &Event) -> Option<(u32, Reason)>
     ensures { result ≡ spec.given_up event.now }
 {
-    match event {
-        Event::Cancel(seq, reason) => Some((*seq, *reason)),
-        _ => None,
+    if let Event::Cancel(seq, reason) = event {
+        Some((*seq, *reason))
+    } else {
+        None
     }
 }
 

@@ -111,9 +111,10 @@ fn push_all_new(alloc: Global, more: &mut Vec<u8>, events: &[Event]) -> Result<(
 fn removed_device(event: &Event) -> Option<DeviceNo>
     ensures { result ≡ spec.removed_device event.now }
 {
-    match event {
-        Event::NoDevice(device) => Some(*device),
-        _ => None,
+    if let Event::NoDevice(device) = event {
+        Some(*device)
+    } else {
+        None
     }
 }
 
@@ -121,9 +122,10 @@ fn removed_device(event: &Event) -> Option<DeviceNo>
 fn removed_cue(event: &Event) -> Option<CueNo>
     ensures { result ≡ spec.removed_cue event.now }
 {
-    match event {
-        Event::NoCue(cue) => Some(*cue),
-        _ => None,
+    if let Event::NoCue(cue) = event {
+        Some(*cue)
+    } else {
+        None
     }
 }
 

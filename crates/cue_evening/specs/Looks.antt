@@ -39,8 +39,8 @@ abbrev pub log_of : Option (List Entry) → List Followed → Option Log
 log_of None course = None
 log_of (Some told) course = Some (record { told = told; course = course })
 
--- What is reported grew by these entries. None: nothing is reported, for good; so it is once something was lost for want
--- of memory.
+-- What is reported grew by these entries. None: nothing is reported, for good; so it is once something was lost for
+-- want of memory.
 abbrev pub Grew : Option (List Entry) → List Entry → Option (List Entry) → Type 0
 Grew old more None = Unit {0}
 Grew None more (Some new) = ⊥
@@ -207,9 +207,9 @@ pub record Handed : Type 0 where
 abbrev pub handed : Sent → Handed
 handed sent = record { replies = sent.replies.now; orders = sent.orders.now; left = sent.left.now }
 
--- What the log writes at a look: what was recovered, at the first one; each reply, and what its events give up; what the
--- other events give up; the orders; the attempts that hang on one device; and the ends. `last` is the number of the last
--- attempt that was seen before, and None at the first look.
+-- What the log writes at a look: what was recovered, at the first one; each reply, and what its events give up; what
+-- the other events give up; the orders; the attempts that hang on one device; and the ends. `last` is the number of the
+-- last attempt that was seen before, and None at the first look.
 abbrev pub looks : Option ℕ → ShowState → List Event → Handed → ℕ → Log → Log
 looks last state events sent now log =
     let heard = hears state sent.replies events sent.left (opens last state.live log) in

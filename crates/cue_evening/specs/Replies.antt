@@ -140,7 +140,8 @@ with_made wide text es = if wide then with_changes (with_new text es) es else wi
 abbrev pub hindrance_of : Reply → List ℕ → Hindrance
 hindrance_of reply method =
     if is_refused reply code.NotReady && pointwise nat_eq method (codes "/go") then hindrance.Late
-    else if is_refused reply code.Busy && (pointwise nat_eq method (codes "/standby") || pointwise nat_eq method (codes "/remove"))
+    else if is_refused reply code.Busy
+    && (pointwise nat_eq method (codes "/standby") || pointwise nat_eq method (codes "/remove"))
     then hindrance.Busy else hindrance.Other
 
 -- the devices that an attempt waits for

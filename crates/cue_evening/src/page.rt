@@ -83,7 +83,7 @@ impl<'a, R: Clock + Eprint> Paper for Page<'a, R> {
         }
     }
 
-    // With date and time. If that fails, if the clock has no time, or if there is no memory for the line, there is none.
+    // With date and time. If that fails, if the clock has no time, or if there is no memory for it, there is none.
     fn write(&mut self, line: &Line<'_>) {
         let counted = self.refusals.take();
         self.tell_counted(counted);

@@ -65,7 +65,8 @@ impl<P: Paper + Drop> Writer<P> {
 
     // Follows what was found.
     fn follow(&mut self, state: &State)
-        ensures { spec.Does (spec.follows state.now.live) (spec.log_of (P.told self.old.page) self.old.course)
+        ensures { spec.Does (spec.follows state.now.live)
+            (spec.log_of (P.told self.old.page) self.old.course)
             (spec.log_of (P.told self.new.page) self.new.course) }
     {
         if self.course.follow(state).is_err() {
@@ -75,7 +76,8 @@ impl<P: Paper + Drop> Writer<P> {
 
     // A look begins: the first one finds what was recovered, and follows it.
     fn open(&mut self, last: Option<u32>, state: &State)
-        ensures { spec.Does (spec.opens last state.now.live) (spec.log_of (P.told self.old.page) self.old.course)
+        ensures { spec.Does (spec.opens last state.now.live)
+            (spec.log_of (P.told self.old.page) self.old.course)
             (spec.log_of (P.told self.new.page) self.new.course) }
     {
         if last.is_none() {
@@ -86,7 +88,8 @@ impl<P: Paper + Drop> Writer<P> {
 
     // Writes the line of an attempt that is given up by an event, if one is.
     fn tell_cancel(&mut self, event: &Event, later: &[Event])
-        ensures { spec.Does (spec.tells_cancel event.now later.now) (spec.log_of (P.told self.old.page) self.old.course)
+        ensures { spec.Does (spec.tells_cancel event.now later.now)
+            (spec.log_of (P.told self.old.page) self.old.course)
             (spec.log_of (P.told self.new.page) self.new.course) }
     {
         if let Some((seq, reason)) = given_up(event) {
@@ -98,7 +101,8 @@ impl<P: Paper + Drop> Writer<P> {
 
     // Lets an event happen to the attempts.
     fn apply(&mut self, event: &Event, cause: Cause)
-        ensures { spec.Does (spec.applies cause event.now) (spec.log_of (P.told self.old.page) self.old.course)
+        ensures { spec.Does (spec.applies cause event.now)
+            (spec.log_of (P.told self.old.page) self.old.course)
             (spec.log_of (P.told self.new.page) self.new.course) }
     {
         if self.course.take(event, cause).is_err() {
@@ -108,7 +112,8 @@ impl<P: Paper + Drop> Writer<P> {
 
     // Takes an event, and writes a line if an attempt is given up.
     fn take_event(&mut self, event: &Event, later: &[Event], cause: Cause)
-        ensures { spec.Does (λ log. spec.tells_cancel event.now later.now (spec.applies cause event.now log)) (spec.log_of (P.told self.old.page) self.old.course)
+        ensures { spec.Does (λ log. spec.tells_cancel event.now later.now (spec.applies cause event.now log))
+            (spec.log_of (P.told self.old.page) self.old.course)
             (spec.log_of (P.told self.new.page) self.new.course) }
     {
         self.apply(event, cause);
@@ -117,7 +122,8 @@ impl<P: Paper + Drop> Writer<P> {
 
     // Takes events, in order.
     fn take_events(&mut self, events: &[Event], cause: Cause)
-        ensures { spec.Does (spec.takes cause events.now) (spec.log_of (P.told self.old.page) self.old.course)
+        ensures { spec.Does (spec.takes cause events.now)
+            (spec.log_of (P.told self.old.page) self.old.course)
             (spec.log_of (P.told self.new.page) self.new.course) }
     {
         let mut rest = events;
@@ -131,7 +137,8 @@ impl<P: Paper + Drop> Writer<P> {
     // its place.
     fn put_reply(&mut self, answer: &Answer<'_>, address: &[u8], more: &[u8])
         ensures page { spec.Grew (P.told self.old.page) (spec.reply_entry answer.now.reply.now
-            (lines.reply_line answer.now.reply.now answer.now.is_sent address.now more.now) ∷ []) (P.told self.new.page) }
+            (lines.reply_line answer.now.reply.now answer.now.is_sent address.now more.now) ∷ [])
+            (P.told self.new.page) }
         ensures course { self.new.course ≡ self.old.course }
     {
         let line = reply_line(answer.reply, answer.is_sent, address, more);
@@ -166,7 +173,8 @@ impl<P: Paper + Drop> Writer<P> {
         made: &[Event],
         later: &[Event],
     )
-        ensures { spec.Does (spec.tells_reply state.now reply.now is_sent made.now later.now) (spec.log_of (P.told self.old.page) self.old.course)
+        ensures { spec.Does (spec.tells_reply state.now reply.now is_sent made.now later.now)
+            (spec.log_of (P.told self.old.page) self.old.course)
             (spec.log_of (P.told self.new.page) self.new.course) }
     {
         if let Some(is_sent) = is_sent {
@@ -188,7 +196,8 @@ impl<P: Paper + Drop> Writer<P> {
         made: &[Event],
         later: &[Event],
     )
-        ensures { spec.Does (spec.hears_reply state.now reply.now is_sent made.now later.now) (spec.log_of (P.told self.old.page) self.old.course)
+        ensures { spec.Does (spec.hears_reply state.now reply.now is_sent made.now later.now)
+            (spec.log_of (P.told self.old.page) self.old.course)
             (spec.log_of (P.told self.new.page) self.new.course) }
     {
         self.tell_sent(state, reply, is_sent, made, later);
@@ -233,7 +242,8 @@ impl<P: Paper + Drop> Writer<P> {
     // Writes the lines of orders.
     fn tell_orders(&mut self, last: Option<u32>, sent: Sent<'_>)
         ensures page { spec.Grew (P.told self.old.page)
-            (spec.orders_entries last sent.entry.orders.now sent.entry.left.now self.old.course) (P.told self.new.page) }
+            (spec.orders_entries last sent.entry.orders.now sent.entry.left.now self.old.course)
+            (P.told self.new.page) }
         ensures course { self.new.course ≡ self.old.course }
     {
         let orders = sent.orders;
@@ -269,7 +279,9 @@ impl<P: Paper + Drop> Writer<P> {
 
     // Goes on to the next look. For how long there was none is said, if it was long.
     fn turn(&mut self)
-        ensures { spec.Does (spec.writes (spec.held_entry (spec.held_between (P.time self.old.page) (P.time self.new.page)))) (spec.log_of (P.told self.old.page) self.old.course)
+        ensures { spec.Does (spec.writes (spec.held_entry
+            (spec.held_between (P.time self.old.page) (P.time self.new.page))))
+            (spec.log_of (P.told self.old.page) self.old.course)
             (spec.log_of (P.told self.new.page) self.new.course) }
     {
         if let Some(millis) = self.page.turn() {
@@ -279,7 +291,8 @@ impl<P: Paper + Drop> Writer<P> {
 
     // Writes a line for each attempt that has ended, and follows it no longer.
     fn end(&mut self, state: &State, now: u64)
-        ensures { spec.Does (spec.ends state.now now) (spec.log_of (P.told self.old.page) self.old.course)
+        ensures { spec.Does (spec.ends state.now now)
+            (spec.log_of (P.told self.old.page) self.old.course)
             (spec.log_of (P.told self.new.page) self.new.course) }
     {
         tell_ends(
@@ -294,7 +307,9 @@ impl<P: Paper + Drop> Writer<P> {
 
     // Writes what there is to say at a look.
     fn look(&mut self, last: Option<u32>, state: &State, batch: &[Event], sent: Sent<'_>)
-        ensures { spec.Does (spec.looks last state.now batch.now (spec.handed sent.entry) (unwrap_or (P.time self.old.page) 0)) (spec.log_of (P.told self.old.page) self.old.course)
+        ensures { spec.Does (spec.looks last state.now batch.now (spec.handed sent.entry)
+            (unwrap_or (P.time self.old.page) 0))
+            (spec.log_of (P.told self.old.page) self.old.course)
             (spec.log_of (P.told self.new.page) self.new.course) }
     {
         let now = self.page.millis();
@@ -359,7 +374,8 @@ impl<P: Paper + Drop> Teller<P> {
     pub fn tell(&mut self, state: &State, batch: &[Event], sent: Sent<'_>)
         ensures seen { self.new.last ≡ Some state.now.last_seq }
         ensures log { (time : Option ℕ) × spec.Does
-            (spec.looks_at (P.time self.old.writer.page) time self.old.last state.now batch.now (spec.handed sent.entry))
+            (spec.looks_at (P.time self.old.writer.page) time self.old.last state.now batch.now
+            (spec.handed sent.entry))
             (spec.log_of (P.told self.old.writer.page) self.old.writer.course)
             (spec.log_of (P.told self.new.writer.page) self.new.writer.course) }
     {

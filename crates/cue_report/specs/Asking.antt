@@ -127,7 +127,8 @@ IsLast {A} x xs = (before : List A) × (xs ≡ before ++ x ∷ [])
 
 -- a command is the one that is meant: it was made at this second, of this cue or of several
 abbrev pub is_meant : CueVerb → Option (List ℕ) → ℕ → Made → Bool
-is_meant v cue at made = same_text (cue_verb_text made.verb) (cue_verb_text v) && (nat_eq made.at at && is_of made.cue cue)
+is_meant v cue at made =
+    same_text (cue_verb_text made.verb) (cue_verb_text v) && (nat_eq made.at at && is_of made.cue cue)
 
 -- who asked for this of a cue at a second: the last one of these who did, else the one before
 abbrev pub asker_in : CueVerb → Option (List ℕ) → ℕ → Who → List Made → Who

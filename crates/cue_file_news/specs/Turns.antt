@@ -23,7 +23,7 @@ pub data Turn : Type 0 where
   -- the file that was taken last is shown since this moment
   was_shown : (at : ℕ) → Turn
 
--- What a desk starts with: the port that was said, its show file, and the text from which that was read.
+-- What a desk starts with: the port that was said, its show file, and the text that the file had then.
 pub record Start : Type 0 where
   pub said : Option ℕ
   pub file : ShowFile

@@ -13,7 +13,7 @@ use Rattle.cue_file_news.specs.declared.watching.Became.{Became}
 use Rattle.cue_file_news.specs.declared.watching.FileReading.{FileReading}
 use Rattle.cue_file_news.specs.declared.watching.FileWatch.{FileWatch}
 
--- what a desk starts with, whose file was read from this text
+-- what a desk starts with, whose file had this text
 abbrev pub start_of : Option ℕ → ShowFile → String Global → Start
 start_of said file text = record { said = said; file = file; text = string_bytes text }
 

@@ -111,8 +111,8 @@ fn news_shown(news: News, at: u64) -> News
 }
 
 impl FileWatch {
-    /// The watch of a desk that starts with this file, read from this text. `said` is the port of the controller that
-    /// the command line or the environment says.
+    /// The watch of a desk that starts with this file, which had this text then. `said` is the port of the controller
+    /// that the command line or the environment says.
     pub fn new(
         alloc: Global,
         said: Option<u16>,

@@ -332,11 +332,7 @@ fn open_board<'a, R: Files<File = File> + Net + Clock + Eprint + AllocGlobal>(
             return Err(ending);
         }
     };
-    let Begun {
-        file,
-        watch,
-        port,
-    } = begun;
+    let Begun { file, watch, port } = begun;
     Ok(Board {
         rt,
         desk,

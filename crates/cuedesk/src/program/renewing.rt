@@ -1,6 +1,9 @@
 //! A show file that is looked at while a desk shows it: here it is looked at and read. `cue_file_news` decides.
-use super::port_of;
+ghost use Rattle.std.specs.Prelude.{◌≡◌, ◌≢◌, [], IfOk, None, true};
+ghost use Rattle.cuedesk.specs.Beginning.{IsBegun};
+
 use cue_desk::ending::Ending;
+use cue_desk::ports::controller_port;
 use cue_desk::stamps::Stamp;
 use cue_desk_run::{Beat, Desk, text_within, wall_time};
 use cue_file_news::{Became, FileReading, FileWatch, Look, Reading};
@@ -56,7 +59,9 @@ fn reading_at<R: Files<File = File> + Clock + AllocGlobal>(
     rt: &R,
     path: &str,
     stamp: Stamp,
-) -> FileReading {
+) -> FileReading
+    ensures { result.begun.stamp ≡ stamp }
+{
     let begun = Reading {
         stamp,
         begun: wall_time(rt),
@@ -69,14 +74,16 @@ fn reading_at<R: Files<File = File> + Clock + AllocGlobal>(
     }
 }
 
-// What a desk begins with that has this show file, read from this text, and the cues that are stood by together.
+// What a desk begins with that has this show file with this text, and the cues that are stood by together.
 fn begin_with<'a>(
     alloc: Global,
     path: &'a str,
     said: Option<u16>,
     file: ShowFile,
     text: String,
-) -> Result<(Begun<'a>, Vec<Group>), AllocError> {
+) -> Result<(Begun<'a>, Vec<Group>), AllocError>
+    ensures { IfOk result (λ begun. IsBegun said begun.0.file begun.0.port begun.1.items) }
+{
     let together = groups_of(alloc, &file)?;
     let watch = FileWatch::new(alloc, said, &file, text)?;
     let begun = Begun {
@@ -97,12 +104,14 @@ pub fn begin<'a, R: Files<File = File> + Eprint + AllocGlobal>(
     rt: &R,
     path: Option<&'a str>,
     said: Option<u16>,
-) -> Result<(Begun<'a>, Vec<Group>), Ending> {
+) -> Result<(Begun<'a>, Vec<Group>), Ending>
+    ensures { IfOk result (λ begun. IsBegun said begun.0.file begun.0.port begun.1.items) }
+{
     let Some(path) = path else {
         let begun = Begun {
             file: None,
             watch: None,
-            port: port_of(said, None),
+            port: controller_port(said, None),
         };
         return Ok((begun, Vec::new(rt.alloc())));
     };
@@ -119,7 +128,9 @@ impl WatchedFile<'_> {
         &mut self,
         rt: &R,
         is_live: bool,
-    ) -> Option<ShowFile> {
+    ) -> Option<ShowFile>
+        ensures { is_live ≡ true → result ≡ None }
+    {
         let stamp = self.watch.look(found_at(rt, self.path), is_live)?;
         let reading = reading_at(rt, self.path, stamp);
         match self.watch.take(rt.alloc(), reading) {
@@ -128,12 +139,15 @@ impl WatchedFile<'_> {
         }
     }
 
-    /// What this desk shows from now on: it looks at its file, if a look is due.
+    /// What this desk shows from now on: it looks at its file, if a look is due. While an attempt is live no other file
+    /// is shown.
     pub fn renew<R: Files<File = File> + Net + Clock + AllocGlobal>(
         &mut self,
         rt: &R,
         desk: &Desk<'_, R>,
-    ) -> io::Result<Renewal> {
+    ) -> io::Result<Renewal>
+        ensures { desk.now.view.live.items ≢ [] → IfOk result (λ renewal. renewal.file ≡ None) }
+    {
         let is_due = self.beats.is_due(desk.now()?);
         let is_live = !desk.view().live.is_empty();
         let file = if is_due { self.look(rt, is_live) } else { None };

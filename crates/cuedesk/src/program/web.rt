@@ -317,11 +317,7 @@ fn open_server<'a, R: Files<File = File> + Net + Clock + Eprint + AllocGlobal>(
         name: web.name,
         together,
     };
-    let Begun {
-        file,
-        watch,
-        port,
-    } = begun;
+    let Begun { file, watch, port } = begun;
     let beside = Beside { file, port, run };
     let pages = Pages::new(rt.alloc(), identity, token, beside)?;
     match open_desk(rt, &sources) {

@@ -1,8 +1,8 @@
 -- A value is written one character after the other, and a reader finds what was written.
 use Rattle.std.proofs.Common.{◌≡◌, ◌∙◌, ◌<◌, ◌≤◌, ◌+◌, ℕ, List, [], ◌∷◌, ◌++◌, length, get_or, drop, encode_utf8_all}
-use Rattle.std.proofs.Common.{Bool, true, false, ◌==◌, if◌then◌else◌, ◌/◌, ◌%◌, map, suc, zero, refl, sym, ap, subst, arith}
-use Rattle.std.proofs.Common.{append_assoc, append-nil, string_bytes, codes}
-use Rattle.std.specs.Prelude.{String, Option, Some, None, nat_lt}
+use Rattle.std.proofs.Common.{Bool, true, false, ◌==◌, ◌/◌, ◌%◌, map, suc, zero, refl, sym, ap, subst, arith}
+use Rattle.std.proofs.Common.{append_assoc, append-nil, string_bytes}
+use Rattle.std.specs.Prelude.{String, Some, nat_lt}
 use Rattle.std.specs.Char.{encode_utf8}
 use Rattle.std.specs.List.{flat_map}
 use Rattle.std.specs.Str.{chars}

@@ -1,7 +1,6 @@
 -- What is heard, line by line.
-use Rattle.std.proofs.Common.{◌≡◌, ◌++◌, ◌∙◌, ℕ, List, [], ◌∷◌, Option, Some, None, ap, drop, refl, sym}
+use Rattle.std.proofs.Common.{◌≡◌, ◌++◌, ◌∙◌, ℕ, List, [], ◌∷◌, Option, Some, None, ap, refl, sym}
 use Rattle.std.specs.List.{AllByRecursion}
-use Rattle.cue_log_lines.specs.Reading.{read}
 use Rattle.cue_log_lines.specs.declared.line.Line.{Line}
 use Rattle.cue_log_lines.specs.declared.line.Line.TheVariants.{Recovered}
 use Rattle.cue_log_lines.specs.declared.line.Try.{Try}

@@ -12,7 +12,6 @@ use Rattle.cue_report.specs.declared.marks.Curtain.{Curtain}
 use Rattle.cue_report.specs.declared.marks.Curtain.TheVariants.{Up, Down}
 use Rattle.cue_report.specs.declared.marks.Mark.{Mark}
 use Rattle.cue_report.specs.declared.range.Hours.{Hours}
-use Rattle.cue_report.specs.declared.range.Moments.{Moments}
 use Rattle.cue_report.specs.declared.range.Range.{Range}
 use Rattle.cue_report.specs.declared.range.Range.TheVariants.{OfDay, Between}
 

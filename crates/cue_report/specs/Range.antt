@@ -2,7 +2,6 @@
 use Rattle.std.specs.Prelude.{ℕ, ℤ, Bool, true, ◌&&◌, ◌||◌, if◌then◌else◌, nat_le, Option, Some, None}
 use Rattle.cue_report.specs.Dates.{clock_at}
 use Rattle.cue_report.specs.declared.range.Hours.{Hours}
-use Rattle.cue_report.specs.declared.range.Moments.{Moments}
 use Rattle.cue_report.specs.declared.range.Range.{Range}
 use Rattle.cue_report.specs.declared.range.Range.TheVariants as range
 

@@ -15,8 +15,6 @@ mod network;
 mod said;
 mod stack;
 
-pub use marks::CurtainMark;
-
 use alarms::alarms_value;
 use buttons::{has_moves, others_value};
 use called::names_value;
@@ -26,6 +24,7 @@ use cue_show_file::{Group, cue_text};
 use cue_view::view::View;
 use ends::{past_value, told_or_null};
 use live::live_value;
+pub use marks::CurtainMark;
 use marks::marks_value;
 use network::network_value;
 use said::{said_value, unsent_value};

@@ -162,7 +162,7 @@ impl<'a> Pages<'a> {
 
     /// From now on these are the marks of the evening. A page that was given none keeps none.
     pub fn put_marks(&mut self, marks: Vec<CurtainMark>)
-        ensures shown { self.new.marks ≡ Some marks.entry }
+        ensures shown { self.new.marks ≡ Some marks }
         ensures identity { self.new.identity ≡ self.old.identity }
         ensures guard { self.new.guard ≡ self.old.guard }
         ensures waiting { self.new.waiting ≡ self.old.waiting }

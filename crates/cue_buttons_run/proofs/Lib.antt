@@ -1,4 +1,5 @@
 pub mod PlayingLemmas
 pub mod PressLemmas
 pub mod StruckLemmas
+pub mod TellingLemmas
 pub mod TryLemmas

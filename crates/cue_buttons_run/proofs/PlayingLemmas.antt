@@ -1,26 +1,26 @@
 -- What happens at a panel, round by round.
 use Rattle.std.proofs.Common.{◌≡◌, ◌∙◌, ◌⊎◌, refl, sym, ap, subst, inl, inr, ℕ, ◌+◌, ◌<◌, ◌≤◌, Bool, true, false, List}
-use Rattle.std.proofs.Common.{[], ◌∷◌, ◌++◌, length, get_or, map, take, append_assoc, append-nil, Option, Some, None}
+use Rattle.std.proofs.Common.{[], ◌∷◌, ◌++◌, length, get_or, map, take, append_assoc, Option, Some, None}
 use Rattle.std.proofs.Common.{Result, Ok, Err}
-use Rattle.std.specs.List.{list_all}
 use Rattle.std.specs.Prelude.{IsErr, is_ok}
-use Rattle.std.proofs.lemmas.Bool.{and_from}
-use Rattle.std.proofs.lemmas.List.{take_more, map-append}
-use Rattle.std.proofs.lemmas.List.Folds.{list_all-append}
+use Rattle.std.proofs.lemmas.List.{take_all, take_more, map-append}
+use Rattle.cue_machine.specs.Growing.{Grew}
+use Rattle.cue_machine.proofs.LivingLemmas.{grew_both, grew_none}
 use Rattle.cue_desk_run.specs.Working.{OnlyLooks, Stays}
 use Rattle.cue_midi.specs.declared.heard.Heard.{Heard}
 use Rattle.cue_midi.specs.Stream.{HearsAt, KeepsAt}
-use Rattle.cue_presses.specs.Hand.{emptied}
 use Rattle.cue_station.specs.declared.station.Station.{Station}
 use Rattle.cue_view.specs.declared.view.Said.{Said}
 use Rattle.cue_view.specs.declared.view.View.{View}
 use Rattle.cue_buttons_run.specs.Playing.{AllHappen, AllRounds, Ends, Gives, GivesAll, Goes, Happening, HasListened}
-use Rattle.cue_buttons_run.specs.Playing.{Hears, HearsCame, IsCut, IsRound, Opens, OpensIf, Rounds, Stand}
-use Rattle.cue_buttons_run.specs.Playing.{TellsUndone, Undoes, begun_at, by_hand, bytes_in, cut_at, empties, gives, is_undone, is_whole}
-use Rattle.cue_buttons_run.specs.Playing.{stand}
+use Rattle.cue_buttons_run.specs.Playing.{HeardAs, Hears, HearsCame, IsCut, IsOpened, IsRound, ListensAt, Opens}
+use Rattle.cue_buttons_run.specs.Playing.{Rest, RoundFrom, Rounds, Stand, TellsUndone, Undoes, begun_at, by_hand, cut_at}
+use Rattle.cue_buttons_run.specs.Playing.{empties, gives, happen_by, happens_by, is_undone, rest, stand}
 use Rattle.cue_buttons_run.specs.Pressing.{Takes}
-use Rattle.cue_buttons_run.specs.declared.device.Came.{Came}
-use Rattle.cue_buttons_run.specs.declared.device.Came.TheVariants as came
+use Rattle.cue_buttons_run.specs.Telling.{Reading, Told, bytes_in, gave, nothing, opened, reads, silent}
+use Rattle.cue_buttons_run.specs.Telling.{told_as}
+use Rattle.cue_buttons_run.specs.declared.jack.Came.{Came}
+use Rattle.cue_buttons_run.specs.declared.jack.Came.TheVariants as came
 use Rattle.cue_buttons_run.specs.declared.player.Player.{Player}
 use Rattle.cue_buttons_run.proofs.PressLemmas.{leaves}
 
@@ -68,11 +68,20 @@ undoes_to p p_then v passed told e = inr (told, passed, e)
 
 -- ---- a device is opened
 
-pub opens_none : (now : ℕ) (p p_then : Player) → p_then ≡ p → Opens now p p_then
-opens_none now p p_then e = (false, e)
+pub opens_none : (now : ℕ) (t t_then : Option (List Told)) (p p_then : Player) → t_then ≡ t → p_then ≡ p
+    → Opens now t t_then p p_then
+opens_none now t t_then p p_then a b =
+    (false, subst (λ (x : Option (List Told)). Grew t [] x) (sym a) (grew_none t), b)
 
-pub opens_if : (is_opened : Bool) (now : ℕ) (p p_then : Player) → OpensIf is_opened now p p_then → Opens now p p_then
-opens_if is_opened now p p_then opens = (is_opened, opens)
+-- it is, and the jack tells so
+pub opens_it : (now : ℕ) (t t_then : Option (List Told)) (p p_then : Player) → Grew t (opened ∷ []) t_then
+    → IsOpened now p p_then → Opens now t t_then p p_then
+opens_it now t t_then p p_then told opens = (true, told, opens)
+
+-- it is not
+pub opens_not : (now : ℕ) (t t_then : Option (List Told)) (p p_then : Player) → Grew t [] t_then → p_then ≡ p
+    → Opens now t t_then p p_then
+opens_not now t t_then p p_then told same = (false, told, same)
 
 -- ---- one thing after the other
 
@@ -81,52 +90,84 @@ all-then : (first more : List Happening) (a b c : Stand) → AllHappen first a b
 all-then [] more a b c e rest = subst (λ (x : Stand). AllHappen more x c) e rest
 all-then (h ∷ first) more a b c all rest = (all.0, all.1, all-then first more all.0 b c all.2 rest)
 
-cut-none : (w : Bool) → IsCut w []
-cut-none true = refl
-cut-none false = inl refl
+heard-all : (w : Bool) (rs : List Reading) (hs : List Happening) → hs ≡ happen_by rs → HeardAs w rs hs
+heard-all true rs hs e = e
+heard-all false rs hs e = inl e
 
--- nothing happens
-pub hears_none : (w : Bool) (p : Player) (s : Station) (v : View) → Hears w p p s s v v
-hears_none w p s v =
-    record { happened = []; whole = refl; last = []; cut = cut-none w; happens = refl }
+-- each byte whole
+abbrev pub givens : List ℕ → List Happening
+givens bytes = map (λ b. gives true b) bytes
 
-pub hears_same : (w : Bool) (p p_then : Player) (old new : Station) (v v_then : View) → p_then ≡ p → new ≡ old
-    → v_then ≡ v → Hears w p p_then old new v v_then
-hears_same w p p_then old new v v_then a b c =
-    subst (λ (x : Player). Hears w p x old new v v_then) (sym a)
-    (subst (λ (x : Station). Hears w p p old x v v_then) (sym b)
-    (subst (λ (x : View). Hears w p p old old v x) (sym c) (hears_none w p old v)))
+-- first the ones, and then the others
+happen-both : (rs more : List Reading) → happen_by (rs ++ more) ≡ happen_by rs ++ happen_by more
+happen-both [] more = refl
+happen-both (r ∷ rs) more =
+    ap (λ (hs : List Happening). happens_by r ++ hs) (happen-both rs more)
+    ∙ sym (append_assoc (happens_by r) (happen_by rs) (happen_by more))
 
--- a read finds nothing
-hears-emptied : (w : Bool) (p p_then : Player) (old new : Station) (v v_then : View)
-    → p_then ≡ by_hand (emptied p.hand) p → Stays old new v v_then → Hears w p p_then old new v v_then
-hears-emptied w p p_then old new v v_then a stays =
+cut-both : (rs more : List Reading) (hs after : List Happening) → hs ≡ happen_by rs → IsCut more after
+    → IsCut (rs ++ more) (hs ++ after)
+cut-both rs more hs after e c =
     record {
-      happened = empties ∷ [];
-      whole = refl;
-      last = [];
-      cut = cut-none w;
-      happens = (stand p_then new v_then, (a, stays), refl);
+      before = rs ++ c.before;
+      bytes = c.bytes;
+      count = c.count;
+      last = ap (λ (x : List Reading). rs ++ x) c.last ∙ sym (append_assoc rs c.before (gave c.bytes ∷ []));
+      within = c.within;
+      heard = ap (λ (x : List Happening). hs ++ x) c.heard
+          ∙ ap (λ (x : List Happening). x ++ (happen_by c.before ++ (givens (take c.count c.bytes)
+          ++ gives false (get_or c.bytes c.count 0) ∷ []))) e
+          ∙ sym (append_assoc (happen_by rs) (happen_by c.before) (givens (take c.count c.bytes)
+          ++ gives false (get_or c.bytes c.count 0) ∷ []))
+          ∙ ap (λ (x : List Happening). x ++ (givens (take c.count c.bytes)
+          ++ gives false (get_or c.bytes c.count 0) ∷ [])) (sym (happen-both rs c.before));
     }
 
+happened-both : (rs more : List Reading) (hs after : List Happening) → hs ≡ happen_by rs → after ≡ happen_by more
+    → hs ++ after ≡ happen_by (rs ++ more)
+happened-both rs more hs after e heard =
+    ap (λ (x : List Happening). x ++ after) e ∙ ap (λ (x : List Happening). happen_by rs ++ x) heard
+    ∙ sym (happen-both rs more)
+
+heard-both : (w : Bool) (rs more : List Reading) (hs after : List Happening) → hs ≡ happen_by rs
+    → HeardAs w more after → HeardAs w (rs ++ more) (hs ++ after)
+heard-both true rs more hs after e heard = happened-both rs more hs after e heard
+heard-both false rs more hs after e (inl heard) = inl (happened-both rs more hs after e heard)
+heard-both false rs more hs after e (inr cut) = inr (cut-both rs more hs after e cut)
+
+same-stand : (p p_then : Player) (old new : Station) (v v_then : View) → p_then ≡ p → new ≡ old → v_then ≡ v
+    → stand p_then new v_then ≡ stand p old v
+same-stand p p_then old new v v_then a b c =
+    ap (λ (x : Player). stand x new v_then) a ∙ ap (λ (x : Station). stand p x v_then) b
+    ∙ ap (λ (x : View). stand p old x) c
+
+-- nothing happens
+pub hears_none : (w : Bool) (t : Option (List Told)) (p : Player) (s : Station) (v : View) → Hears w t t p p s s v v
+hears_none w t p s v =
+    record { readings = []; read = grew_none t; happened = []; heard = heard-all w [] [] refl; happens = refl }
+
+pub hears_same : (w : Bool) (t t_then : Option (List Told)) (p p_then : Player) (old new : Station) (v v_then : View)
+    → t_then ≡ t → p_then ≡ p → new ≡ old → v_then ≡ v → Hears w t t_then p p_then old new v v_then
+hears_same w t t_then p p_then old new v v_then d a b c =
+    subst (λ (x : Option (List Told)). Hears w t x p p_then old new v v_then) (sym d)
+    (subst (λ (x : Player). Hears w t t p x old new v v_then) (sym a)
+    (subst (λ (x : Station). Hears w t t p p old x v v_then) (sym b)
+    (subst (λ (x : View). Hears w t t p p old old v x) (sym c) (hears_none w t p old v))))
+
 -- first the one, and then the other
-pub hears_then : (w : Bool) (p mid p_then : Player) (old between new : Station) (v v_mid v_then : View)
-    → Hears true p mid old between v v_mid → Hears w mid p_then between new v_mid v_then
-    → Hears w p p_then old new v v_then
-hears_then w p mid p_then old between new v v_mid v_then a b =
-    let first : AllHappen a.happened (stand p old v) (stand mid between v_mid) =
-    subst (λ (hs : List Happening). AllHappen hs (stand p old v) (stand mid between v_mid))
-    (ap (λ (hs : List Happening). a.happened ++ hs) a.cut ∙ append-nil a.happened) a.happens in
+pub hears_then : (w : Bool) (t t_mid t_then : Option (List Told)) (p mid p_then : Player) (old between new : Station)
+    (v v_mid v_then : View) → Hears true t t_mid p mid old between v v_mid
+    → Hears w t_mid t_then mid p_then between new v_mid v_then → Hears w t t_then p p_then old new v v_then
+hears_then w t t_mid t_then p mid p_then old between new v v_mid v_then a b =
     record {
+      readings = a.readings ++ b.readings;
+      read = subst (λ (xs : List Told). Grew t xs t_then) (sym (map-append (λ (r : Reading). reads r) a.readings b.readings))
+          (grew_both t (map (λ (r : Reading). reads r) a.readings) t_mid (map (λ (r : Reading). reads r) b.readings)
+          t_then a.read b.read);
       happened = a.happened ++ b.happened;
-      whole = list_all-append is_whole a.happened b.happened
-          ∙ and_from (list_all is_whole a.happened) (list_all is_whole b.happened) a.whole b.whole;
-      last = b.last;
-      cut = b.cut;
-      happens = subst (λ (hs : List Happening). AllHappen hs (stand p old v) (stand p_then new v_then))
-          (sym (append_assoc a.happened b.happened b.last))
-          (all-then a.happened (b.happened ++ b.last) (stand p old v) (stand mid between v_mid)
-          (stand p_then new v_then) first b.happens);
+      heard = heard-both w a.readings b.readings a.happened b.happened a.heard b.heard;
+      happens = all-then a.happened b.happened (stand p old v) (stand mid between v_mid) (stand p_then new v_then)
+          a.happens b.happens;
     }
 
 -- what ended in a failure
@@ -134,49 +175,68 @@ not-ok : {T E : Type 0} (r : Result T E) → IsErr r → is_ok r ≡ false
 not-ok (Ok x) e = absurd cc
 not-ok (Err x) e = refl
 
-pub hears_fails : {T E : Type 0} (r : Result T E) (p mid p_then : Player) (old between new : Station)
-    (v v_mid v_then : View) → IsErr r → Hears true p mid old between v v_mid
-    → Hears false mid p_then between new v_mid v_then → Hears (is_ok r) p p_then old new v v_then
-hears_fails r p mid p_then old between new v v_mid v_then err a b =
-    subst (λ (w : Bool). Hears w p p_then old new v v_then) (sym (not-ok r err))
-    (hears_then false p mid p_then old between new v v_mid v_then a b)
+pub hears_fails : {T E : Type 0} (r : Result T E) (t t_mid t_then : Option (List Told)) (p mid p_then : Player)
+    (old between new : Station) (v v_mid v_then : View) → IsErr r → Hears true t t_mid p mid old between v v_mid
+    → Hears false t_mid t_then mid p_then between new v_mid v_then → Hears (is_ok r) t t_then p p_then old new v v_then
+hears_fails r t t_mid t_then p mid p_then old between new v v_mid v_then err a b =
+    subst (λ (w : Bool). Hears w t t_then p p_then old new v v_then) (sym (not-ok r err))
+    (hears_then false t t_mid t_then p mid p_then old between new v v_mid v_then a b)
 
 -- ---- bytes
 
--- each of them whole
-abbrev pub givens : List ℕ → List Happening
-givens bytes = map (λ b. gives true b) bytes
+heard-given : (w : Bool) (bytes : List ℕ) (p p_then : Player) (old new : Station) (v v_then : View)
+    → (g : GivesAll w bytes p p_then old new v v_then)
+    → HeardAs w (gave bytes ∷ []) (givens (take g.count bytes) ++ cut_at w (get_or bytes g.count 0))
+heard-given true bytes p p_then old new v v_then g =
+    ap (λ (xs : List ℕ). givens xs ++ []) (take_all g.count bytes (g.all refl))
+heard-given false bytes p p_then old new v v_then g =
+    inr (record {
+      before = [];
+      bytes = bytes;
+      count = g.count;
+      last = refl;
+      within = g.some refl;
+      heard = refl;
+    })
 
-all-whole : (bytes : List ℕ) → list_all is_whole (givens bytes) ≡ true
-all-whole [] = refl
-all-whole (b ∷ bytes) = all-whole bytes
-
-is-cut : (w : Bool) (byte : ℕ) → IsCut w (cut_at w byte)
-is-cut true byte = refl
-is-cut false byte = inr (byte, refl)
-
-hears-given : (w : Bool) (bytes : List ℕ) (p p_then : Player) (old new : Station) (v v_then : View)
-    → GivesAll w bytes p p_then old new v v_then → Hears w p p_then old new v v_then
-hears-given w bytes p p_then old new v v_then g =
+-- it gave none
+hears-silent : (w : Bool) (t t_then : Option (List Told)) (p p_then : Player) (old new : Station) (v v_then : View)
+    → Grew t (reads silent ∷ []) t_then → p_then ≡ p → Stays old new v v_then → Hears w t t_then p p_then old new v v_then
+hears-silent w t t_then p p_then old new v v_then told same stays =
     record {
-      happened = givens (take g.count bytes);
-      whole = all-whole (take g.count bytes);
-      last = cut_at w (get_or bytes g.count 0);
-      cut = is-cut w (get_or bytes g.count 0);
-      happens = g.happens;
+      readings = silent ∷ [];
+      read = told;
+      happened = [];
+      heard = heard-all w (silent ∷ []) [] refl;
+      happens = same-stand p p_then old new v v_then same stays.0 stays.1;
     }
 
 -- what a reading gave is heard
-pub hears_came : (w : Bool) (c : Came) (room : List ℕ) (p p_then : Player) (old new : Station) (v v_then : View)
-    → HearsCame w c room p p_then old new v v_then → Hears w p p_then old new v v_then
-hears_came w (came.Bytes n) room p p_then old new v v_then h =
-    hears-given w (bytes_in n room) p p_then old new v v_then h
-hears_came w came.Nothing room p p_then old new v v_then h = hears-emptied w p p_then old new v v_then h.0 h.1
-hears_came w came.Interrupted room p p_then old new v v_then h =
-    hears_same w p p_then old new v v_then h.0 h.1.0 h.1.1
-hears_came w came.Ended room p p_then old new v v_then h = hears_same w p p_then old new v v_then h.0 h.1.0 h.1.1
-hears_came w (came.Gone why) room p p_then old new v v_then h =
-    hears_same w p p_then old new v v_then h.0 h.1.0 h.1.1
+pub hears_came : (w : Bool) (c : Came) (room : List ℕ) (t t_then : Option (List Told)) (p p_then : Player)
+    (old new : Station) (v v_then : View) → Grew t (told_as c room) t_then
+    → HearsCame w c room p p_then old new v v_then → Hears w t t_then p p_then old new v v_then
+hears_came w (came.Bytes n) room t t_then p p_then old new v v_then told h =
+    record {
+      readings = gave (bytes_in n room) ∷ [];
+      read = told;
+      happened = givens (take h.count (bytes_in n room)) ++ cut_at w (get_or (bytes_in n room) h.count 0);
+      heard = heard-given w (bytes_in n room) p p_then old new v v_then h;
+      happens = h.happens;
+    }
+hears_came w came.Nothing room t t_then p p_then old new v v_then told h =
+    record {
+      readings = nothing ∷ [];
+      read = told;
+      happened = empties ∷ [];
+      heard = heard-all w (nothing ∷ []) (empties ∷ []) refl;
+      happens = (stand p_then new v_then, h, refl);
+    }
+hears_came w came.Interrupted room t t_then p p_then old new v v_then told h =
+    hears-silent w t t_then p p_then old new v v_then told h.0 h.1
+hears_came w came.Ended room t t_then p p_then old new v v_then told h =
+    hears-silent w t t_then p p_then old new v v_then told h.0 h.1
+hears_came w (came.Gone why) room t t_then p p_then old new v v_then told h =
+    hears-silent w t t_then p p_then old new v v_then told h.0 h.1
 
 -- The first so many were given.
 pub record GivenFirst (count : ℕ) (bytes : List ℕ) (p p_then : Player) (old new : Station) (v v_then : View) : Type 0 where
@@ -230,40 +290,56 @@ first_cut r bytes i byte p mid p_then old between new v v_mid v_then err within 
 
 -- ---- a round
 
-listens-by : (w : Bool) (now : ℕ) (p opened p_then : Player) (old new : Station) (v v_then : View)
-    → Opens now p opened → Hears w (begun_at now opened) p_then old new v v_then
-    → HasListened w p p_then old new v v_then
-listens-by true now p opened p_then old new v v_then opens hears =
-    (now, record { opened = opened; opens = opens; hears = hears })
-listens-by false now p opened p_then old new v v_then opens hears =
-    (now, inl (record { opened = opened; opens = opens; hears = hears }))
+listens-by : (w : Bool) (now : ℕ) (t t_mid t_then : Option (List Told)) (p ready p_then : Player)
+    (old new : Station) (v v_then : View) → Opens now t t_mid p ready
+    → Hears w t_mid t_then (begun_at now ready) p_then old new v v_then
+    → ListensAt w now t t_then p p_then old new v v_then
+listens-by true now t t_mid t_then p ready p_then old new v v_then opens hears =
+    record { told_mid = t_mid; opened = ready; opens = opens; hears = hears }
+listens-by false now t t_mid t_then p ready p_then old new v v_then opens hears =
+    inl (record { told_mid = t_mid; opened = ready; opens = opens; hears = hears })
 
 -- a device may be opened, the round begins, and the device is heard
-pub listens : (w : Bool) (now : ℕ) (p opened begins p_then : Player) (old mid between new : Station)
-    (v v_mid v_between v_then : View) → Opens now p opened → mid ≡ old → v_mid ≡ v → begins ≡ begun_at now opened
-    → between ≡ mid → v_between ≡ v_mid → Hears w begins p_then between new v_between v_then
-    → HasListened w p p_then old new v v_then
-listens w now p opened begins p_then old mid between new v v_mid v_between v_then opens a b begun c d hears =
-    listens-by w now p opened p_then old new v v_then opens
-    (subst (λ (x : Player). Hears w x p_then old new v v_then) begun
-    (subst (λ (x : Station). Hears w begins p_then x new v v_then) (c ∙ a)
-    (subst (λ (x : View). Hears w begins p_then between new x v_then) (d ∙ b) hears)))
+pub listens : (w : Bool) (now : ℕ) (t t_mid t_then : Option (List Told)) (p ready begins p_then : Player)
+    (old mid between new : Station) (v v_mid v_between v_then : View) → Opens now t t_mid p ready → mid ≡ old
+    → v_mid ≡ v → begins ≡ begun_at now ready → between ≡ mid → v_between ≡ v_mid
+    → Hears w t_mid t_then begins p_then between new v_between v_then
+    → ListensAt w now t t_then p p_then old new v v_then
+listens w now t t_mid t_then p ready begins p_then old mid between new v v_mid v_between v_then opens a b begun c d hears =
+    listens-by w now t t_mid t_then p ready p_then old new v v_then opens
+    (subst (λ (x : Player). Hears w t_mid t_then x p_then old new v v_then) begun
+    (subst (λ (x : Station). Hears w t_mid t_then begins p_then x new v v_then) (c ∙ a)
+    (subst (λ (x : View). Hears w t_mid t_then begins p_then between new x v_then) (d ∙ b) hears)))
 
 -- it did not begin
-pub listens_not : (now : ℕ) (p p_then : Player) (old new : Station) (v v_then : View) → Opens now p p_then → new ≡ old
-    → v_then ≡ v → HasListened false p p_then old new v v_then
-listens_not now p p_then old new v v_then opens a b = (now, inr (opens, (a, b)))
+pub listens_not : (now : ℕ) (t t_then : Option (List Told)) (p p_then : Player) (old new : Station) (v v_then : View)
+    → Opens now t t_then p p_then → new ≡ old → v_then ≡ v → ListensAt false now t t_then p p_then old new v v_then
+listens_not now t t_then p p_then old new v v_then opens a b = inr (opens, (a, b))
 
-pub listens_fails : {T E : Type 0} (r : Result T E) (p p_then : Player) (old new : Station) (v v_then : View) → IsErr r
-    → HasListened false p p_then old new v v_then → HasListened (is_ok r) p p_then old new v v_then
-listens_fails r p p_then old new v v_then err h =
-    subst (λ (w : Bool). HasListened w p p_then old new v v_then) (sym (not-ok r err)) h
+pub listens_fails : {T E : Type 0} (r : Result T E) (now : ℕ) (t t_then : Option (List Told)) (p p_then : Player)
+    (old new : Station) (v v_then : View) → IsErr r → ListensAt false now t t_then p p_then old new v v_then
+    → ListensAt (is_ok r) now t t_then p p_then old new v v_then
+listens_fails r now t t_then p p_then old new v v_then err h =
+    subst (λ (w : Bool). ListensAt w now t t_then p p_then old new v v_then) (sym (not-ok r err)) h
+
+-- it did, at this moment
+pub has_listened : (w : Bool) (now : ℕ) (t t_then : Option (List Told)) (p p_then : Player) (old new : Station)
+    (v v_then : View) → ListensAt w now t t_then p p_then old new v v_then
+    → HasListened w t t_then p p_then old new v v_then
+has_listened w now t t_then p p_then old new v v_then h = (now, h)
+
+-- nobody knows the moment
+pub has_not_listened : (t t_then : Option (List Told)) (p p_then : Player) (old new : Station) (v v_then : View)
+    → t_then ≡ t → p_then ≡ p → new ≡ old → v_then ≡ v → HasListened false t t_then p p_then old new v v_then
+has_not_listened t t_then p p_then old new v v_then d e a b =
+    (0, listens_not 0 t t_then p p_then old new v v_then (opens_none 0 t t_then p p_then d e) a b)
 
 -- it listens, the desk looks, and what there is to tell is told
-pub is_round : (p mid looked p_then : Player) (old between seen new : Station) (v v_between v_seen v_then : View)
-    → HasListened true p mid old between v v_between → OnlyLooks between seen → Undoes mid looked v_seen
-    → p_then ≡ looked → new ≡ seen → v_then ≡ v_seen → IsRound p p_then old new v v_then
-is_round p mid looked p_then old between seen new v v_between v_seen v_then listens looks undoes a b c =
+pub is_round : (t t_then : Option (List Told)) (p mid looked p_then : Player) (old between seen new : Station)
+    (v v_between v_seen v_then : View) → HasListened true t t_then p mid old between v v_between
+    → OnlyLooks between seen → Undoes mid looked v_seen → p_then ≡ looked → new ≡ seen → v_then ≡ v_seen
+    → IsRound t t_then p p_then old new v v_then
+is_round t t_then p mid looked p_then old between seen new v v_between v_seen v_then listens looks undoes a b c =
     record {
       mid = stand mid between v_between;
       listens = listens;
@@ -272,72 +348,74 @@ is_round p mid looked p_then old between seen new v v_between v_seen v_then list
           (subst (λ (x : View). Undoes mid looked x) (sym c) undoes);
     }
 
-pub round_kept : (p mid p_then : Player) (old between new : Station) (v v_between v_then : View)
-    → IsRound p mid old between v v_between → p_then ≡ mid → new ≡ between → v_then ≡ v_between
-    → IsRound p p_then old new v v_then
-round_kept p mid p_then old between new v v_between v_then round a b c =
-    subst (λ (x : Player). IsRound p x old new v v_then) (sym a)
-    (subst (λ (x : Station). IsRound p mid old x v v_then) (sym b)
-    (subst (λ (x : View). IsRound p mid old between v x) (sym c) round))
+pub round_kept : (t t_then : Option (List Told)) (p mid p_then : Player) (old between new : Station)
+    (v v_between v_then : View) → IsRound t t_then p mid old between v v_between → p_then ≡ mid → new ≡ between
+    → v_then ≡ v_between → IsRound t t_then p p_then old new v v_then
+round_kept t t_then p mid p_then old between new v v_between v_then round a b c =
+    subst (λ (x : Player). IsRound t t_then p x old new v v_then) (sym a)
+    (subst (λ (x : Station). IsRound t t_then p mid old x v v_then) (sym b)
+    (subst (λ (x : View). IsRound t t_then p mid old between v x) (sym c) round))
 
-pub rounds_fails : {T E : Type 0} (r : Result T E) (p p_then : Player) (old new : Station) (v v_then : View) → IsErr r
-    → Rounds false p p_then old new v v_then → Rounds (is_ok r) p p_then old new v v_then
-rounds_fails r p p_then old new v v_then err h =
-    subst (λ (w : Bool). Rounds w p p_then old new v v_then) (sym (not-ok r err)) h
+pub rounds_fails : {T E : Type 0} (r : Result T E) (t t_then : Option (List Told)) (p p_then : Player)
+    (old new : Station) (v v_then : View) → IsErr r → Rounds false t t_then p p_then old new v v_then
+    → Rounds (is_ok r) t t_then p p_then old new v v_then
+rounds_fails r t t_then p p_then old new v v_then err h =
+    subst (λ (w : Bool). Rounds w t t_then p p_then old new v v_then) (sym (not-ok r err)) h
 
 -- ---- round by round
 
-ends-same : (w : Bool) (a : Stand) → Ends w a a
+ends-same : (w : Bool) (a : Rest) → Ends w a a
 ends-same true a = refl
 ends-same false a = inl refl
 
-pub goes_none : (w : Bool) (p : Player) (s : Station) (v : View) → Goes w p p s s v v
-goes_none w p s v =
-    record { after_each = []; last = stand p s v; rounds = refl; ends = ends-same w (stand p s v) }
+pub goes_none : (w : Bool) (t : Option (List Told)) (p : Player) (s : Station) (v : View) → Goes w t t p p s s v v
+goes_none w t p s v =
+    record { after_each = []; last = rest t p s v; rounds = refl; ends = ends-same w (rest t p s v) }
 
-pub goes_same : (w : Bool) (p p_then : Player) (old new : Station) (v v_then : View) → p_then ≡ p → new ≡ old
-    → v_then ≡ v → Goes w p p_then old new v v_then
-goes_same w p p_then old new v v_then a b c =
-    subst (λ (x : Player). Goes w p x old new v v_then) (sym a)
-    (subst (λ (x : Station). Goes w p p old x v v_then) (sym b)
-    (subst (λ (x : View). Goes w p p old old v x) (sym c) (goes_none w p old v)))
+pub goes_same : (w : Bool) (t : Option (List Told)) (p p_then : Player) (old new : Station) (v v_then : View)
+    → p_then ≡ p → new ≡ old → v_then ≡ v → Goes w t t p p_then old new v v_then
+goes_same w t p p_then old new v v_then a b c =
+    subst (λ (x : Player). Goes w t t p x old new v v_then) (sym a)
+    (subst (λ (x : Station). Goes w t t p p old x v v_then) (sym b)
+    (subst (λ (x : View). Goes w t t p p old old v x) (sym c) (goes_none w t p old v)))
 
 -- nothing happens before it
-pub goes_from : (w : Bool) (p first p_then : Player) (old start new : Station) (v v_start v_then : View) → first ≡ p
-    → start ≡ old → v_start ≡ v → Goes w first p_then start new v_start v_then → Goes w p p_then old new v v_then
-goes_from w p first p_then old start new v v_start v_then a b c goes =
-    subst (λ (x : Player). Goes w x p_then old new v v_then) a
-    (subst (λ (x : Station). Goes w first p_then x new v v_then) b
-    (subst (λ (x : View). Goes w first p_then start new x v_then) c goes))
+pub goes_from : (w : Bool) (t t_then : Option (List Told)) (p first p_then : Player) (old start new : Station)
+    (v v_start v_then : View) → first ≡ p → start ≡ old → v_start ≡ v
+    → Goes w t t_then first p_then start new v_start v_then → Goes w t t_then p p_then old new v v_then
+goes_from w t t_then p first p_then old start new v v_start v_then a b c goes =
+    subst (λ (x : Player). Goes w t t_then x p_then old new v v_then) a
+    (subst (λ (x : Station). Goes w t t_then first p_then x new v v_then) b
+    (subst (λ (x : View). Goes w t t_then first p_then start new x v_then) c goes))
 
-rounds-then : (ss : List Stand) (a b c : Stand) → AllRounds ss a b
-    → IsRound b.player c.player b.station c.station b.view c.view → AllRounds (ss ++ c ∷ []) a c
-rounds-then [] a b c e round =
-    (subst (λ (x : Stand). IsRound x.player c.player x.station c.station x.view c.view) e round, refl)
+rounds-then : (ss : List Rest) (a b c : Rest) → AllRounds ss a b → RoundFrom b c → AllRounds (ss ++ c ∷ []) a c
+rounds-then [] a b c e round = (subst (λ (x : Rest). RoundFrom x c) e round, refl)
 rounds-then (s ∷ ss) a b c all round = (all.0, rounds-then ss s b c all.1 round)
 
 -- one round more
-pub goes_round : (p mid p_then : Player) (old between new : Station) (v v_mid v_then : View)
-    → Goes true p mid old between v v_mid → IsRound mid p_then between new v_mid v_then
-    → Goes true p p_then old new v v_then
-goes_round p mid p_then old between new v v_mid v_then goes round =
+pub goes_round : (t t_mid t_then : Option (List Told)) (p mid p_then : Player) (old between new : Station)
+    (v v_mid v_then : View) → Goes true t t_mid p mid old between v v_mid
+    → IsRound t_mid t_then mid p_then between new v_mid v_then → Goes true t t_then p p_then old new v v_then
+goes_round t t_mid t_then p mid p_then old between new v v_mid v_then goes round =
     record {
-      after_each = goes.after_each ++ stand p_then new v_then ∷ [];
-      last = stand p_then new v_then;
-      rounds = rounds-then goes.after_each (stand p old v) (stand mid between v_mid) (stand p_then new v_then)
-          (subst (λ (x : Stand). AllRounds goes.after_each (stand p old v) x) (sym goes.ends) goes.rounds) round;
+      after_each = goes.after_each ++ rest t_then p_then new v_then ∷ [];
+      last = rest t_then p_then new v_then;
+      rounds = rounds-then goes.after_each (rest t p old v) (rest t_mid mid between v_mid)
+          (rest t_then p_then new v_then)
+          (subst (λ (x : Rest). AllRounds goes.after_each (rest t p old v) x) (sym goes.ends) goes.rounds) round;
       ends = refl;
     }
 
 -- and one that fails
-pub goes_fails : {T E : Type 0} (r : Result T E) (p mid p_then : Player) (old between new : Station)
-    (v v_mid v_then : View) → IsErr r → Goes true p mid old between v v_mid
-    → Rounds false mid p_then between new v_mid v_then → Goes (is_ok r) p p_then old new v v_then
-goes_fails r p mid p_then old between new v v_mid v_then err goes round =
-    subst (λ (w : Bool). Goes w p p_then old new v v_then) (sym (not-ok r err))
+pub goes_fails : {T E : Type 0} (r : Result T E) (t t_mid t_then : Option (List Told)) (p mid p_then : Player)
+    (old between new : Station) (v v_mid v_then : View) → IsErr r → Goes true t t_mid p mid old between v v_mid
+    → Rounds false t_mid t_then mid p_then between new v_mid v_then
+    → Goes (is_ok r) t t_then p p_then old new v v_then
+goes_fails r t t_mid t_then p mid p_then old between new v v_mid v_then err goes round =
+    subst (λ (w : Bool). Goes w t t_then p p_then old new v v_then) (sym (not-ok r err))
     (record {
       after_each = goes.after_each;
-      last = stand mid between v_mid;
-      rounds = subst (λ (x : Stand). AllRounds goes.after_each (stand p old v) x) (sym goes.ends) goes.rounds;
+      last = rest t_mid mid between v_mid;
+      rounds = subst (λ (x : Rest). AllRounds goes.after_each (rest t p old v) x) (sym goes.ends) goes.rounds;
       ends = inr round;
     })

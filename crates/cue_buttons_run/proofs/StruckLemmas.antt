@@ -1,6 +1,6 @@
 -- For what a panel lets the desk hear a press.
 use Rattle.std.proofs.Common.{◌≡◌, ◌∙◌, refl, sym, ap, subst, inl, inr, ℕ, Bool, true, false, Option, None, Some}
-use Rattle.std.proofs.Common.{List, [], ◌∷◌, ◌++◌}
+use Rattle.std.proofs.Common.{List, [], ◌∷◌}
 use Rattle.std.proofs.lemmas.Option.{none-some}
 use Rattle.cue_desk_run.specs.Working.{HearsFor, OnlyLooks, Stays}
 use Rattle.cue_desk_run.proofs.WorkLemmas.{for_if, for_looks, for_stays, for_then}
@@ -23,8 +23,9 @@ use Rattle.cue_view.specs.declared.button.Button.{Button}
 use Rattle.cue_view.specs.declared.button.Button.TheVariants as button
 use Rattle.cue_view.specs.declared.view.View.{View}
 use Rattle.cue_buttons_run.specs.Playing.{AllHappen, AllRounds, Ends, Goes, Happening, Happens, HasListened, Hears}
-use Rattle.cue_buttons_run.specs.Playing.{IsRound, Listens, OpensIf, Rounds, Stand, TakesIf, Undoes, begun_at, empties}
-use Rattle.cue_buttons_run.specs.Playing.{gives, stand}
+use Rattle.cue_buttons_run.specs.Playing.{IsRound, Listens, OpensIf, Rest, Rounds, Stand, TakesIf, Undoes, begun_at}
+use Rattle.cue_buttons_run.specs.Playing.{empties, gives, rest, stand}
+use Rattle.cue_buttons_run.specs.Telling.{Told}
 use Rattle.cue_buttons_run.specs.Pressing.{AtMost, Chooses, DoesPress, HasHeard, IsOfPress, IsStruck}
 use Rattle.cue_buttons_run.specs.Pressing.{Leaves, MeansBy, Means, MeansSpoken, OnlyStruck, Presses, PressesIf}
 use Rattle.cue_buttons_run.specs.Pressing.{StillHears, Strikes, StrikesBy, StrikesSpoken, Takes}
@@ -213,10 +214,10 @@ struck-all (h ∷ more) a b all =
 
 -- ---- rounds
 
-hears-struck : (w : Bool) (p p_then : Player) (old new : Station) (v v_then : View) → Hears w p p_then old new v v_then
-    → OnlyStruck p p_then old new
-hears-struck w p p_then old new v v_then h =
-    struck-all (h.happened ++ h.last) (stand p old v) (stand p_then new v_then) h.happens
+hears-struck : (w : Bool) (t t_then : Option (List Told)) (p p_then : Player) (old new : Station) (v v_then : View)
+    → Hears w t t_then p p_then old new v v_then → OnlyStruck p p_then old new
+hears-struck w t t_then p p_then old new v v_then h =
+    struck-all h.happened (stand p old v) (stand p_then new v_then) h.happens
 
 opens-struck : (is_opened : Bool) (now : ℕ) (p p_then : Player) (old new : Station) (v v_then : View)
     → OpensIf is_opened now p p_then → Stays old new v v_then → OnlyStruck p p_then old new
@@ -226,22 +227,23 @@ opens-struck true now p p_then old new v v_then opens stays =
 opens-struck false now p p_then old new v v_then same stays =
     struck-by p p_then old new v v_then (ap (λ (x : Player). x.setting) same) (ap (λ (x : Player). x.parser) same) stays
 
-listens-struck : (w : Bool) (now : ℕ) (p p_then : Player) (old new : Station) (v v_then : View)
-    → Listens w now p p_then old new v v_then → OnlyStruck p p_then old new
-listens-struck w now p p_then old new v v_then l =
+listens-struck : (w : Bool) (now : ℕ) (t t_then : Option (List Told)) (p p_then : Player) (old new : Station)
+    (v v_then : View) → Listens w now t t_then p p_then old new v v_then → OnlyStruck p p_then old new
+listens-struck w now t t_then p p_then old new v v_then l =
     struck-then p l.opened p_then old old new
-    (opens-struck l.opens.0 now p l.opened old old v v l.opens.1 (refl, refl))
+    (opens-struck l.opens.0 now p l.opened old old v v l.opens.2 (refl, refl))
     (struck-then l.opened (begun_at now l.opened) p_then old old new
     (struck-by l.opened (begun_at now l.opened) old old v v refl refl (refl, refl))
-    (hears-struck w (begun_at now l.opened) p_then old new v v_then l.hears))
+    (hears-struck w l.told_mid t_then (begun_at now l.opened) p_then old new v v_then l.hears))
 
-listened-struck : (w : Bool) (p p_then : Player) (old new : Station) (v v_then : View)
-    → HasListened w p p_then old new v v_then → OnlyStruck p p_then old new
-listened-struck true p p_then old new v v_then h = listens-struck true h.0 p p_then old new v v_then h.1
-listened-struck false p p_then old new v v_then h =
+listened-struck : (w : Bool) (t t_then : Option (List Told)) (p p_then : Player) (old new : Station) (v v_then : View)
+    → HasListened w t t_then p p_then old new v v_then → OnlyStruck p p_then old new
+listened-struck true t t_then p p_then old new v v_then h =
+    listens-struck true h.0 t t_then p p_then old new v v_then h.1
+listened-struck false t t_then p p_then old new v v_then h =
     elim h.1 [
-      | inl l ↦ listens-struck false h.0 p p_then old new v v_then l
-      | inr o ↦ opens-struck o.0.0 h.0 p p_then old new v v_then o.0.1 o.1
+      | inl l ↦ listens-struck false h.0 t t_then p p_then old new v v_then l
+      | inr o ↦ opens-struck o.0.0 h.0 p p_then old new v v_then o.0.2 o.1
     ]
 
 undoes-struck : (p p_then : Player) (v : View) (old new : Station) → OnlyLooks old new → Undoes p p_then v
@@ -259,33 +261,41 @@ undoes-struck p p_then v old new looks (inr undone) =
       setting = ap (λ (x : Player). x.setting) undone.2;
     }
 
-round-struck : (p p_then : Player) (old new : Station) (v v_then : View) → IsRound p p_then old new v v_then
-    → OnlyStruck p p_then old new
-round-struck p p_then old new v v_then r =
+round-struck : (t t_then : Option (List Told)) (p p_then : Player) (old new : Station) (v v_then : View)
+    → IsRound t t_then p p_then old new v v_then → OnlyStruck p p_then old new
+round-struck t t_then p p_then old new v v_then r =
     struck-then p r.mid.player p_then old r.mid.station new
-    (listened-struck true p r.mid.player old r.mid.station v r.mid.view r.listens)
+    (listened-struck true t t_then p r.mid.player old r.mid.station v r.mid.view r.listens)
     (undoes-struck r.mid.player p_then v_then r.mid.station new r.looks r.undoes)
 
-failed-struck : (p p_then : Player) (old new : Station) (v v_then : View) → Rounds false p p_then old new v v_then
-    → OnlyStruck p p_then old new
-failed-struck p p_then old new v v_then (inl l) = listened-struck false p p_then old new v v_then l
-failed-struck p p_then old new v v_then (inr r) = round-struck p p_then old new v v_then r
+failed-struck : (t t_then : Option (List Told)) (p p_then : Player) (old new : Station) (v v_then : View)
+    → Rounds false t t_then p p_then old new v v_then → OnlyStruck p p_then old new
+failed-struck t t_then p p_then old new v v_then (inl l) =
+    listened-struck false t t_then p p_then old new v v_then l
+failed-struck t t_then p p_then old new v v_then (inr r) = round-struck t t_then p p_then old new v v_then r
 
-rounds-struck : (ss : List Stand) (a b : Stand) → AllRounds ss a b → OnlyStruck a.player b.player a.station b.station
-rounds-struck [] a b e = struck-same a b e
+rest-same : (a b : Rest) → b ≡ a → OnlyStruck a.stand.player b.stand.player a.stand.station b.stand.station
+rest-same a b e = struck-same a.stand b.stand (ap (λ (x : Rest). x.stand) e)
+
+rounds-struck : (ss : List Rest) (a b : Rest) → AllRounds ss a b
+    → OnlyStruck a.stand.player b.stand.player a.stand.station b.stand.station
+rounds-struck [] a b e = rest-same a b e
 rounds-struck (s ∷ more) a b all =
-    struck-then a.player s.player b.player a.station s.station b.station
-    (round-struck a.player s.player a.station s.station a.view s.view all.0) (rounds-struck more s b all.1)
+    struck-then a.stand.player s.stand.player b.stand.player a.stand.station s.stand.station b.stand.station
+    (round-struck a.told s.told a.stand.player s.stand.player a.stand.station s.stand.station a.stand.view s.stand.view
+    all.0) (rounds-struck more s b all.1)
 
-ends-struck : (w : Bool) (a b : Stand) → Ends w a b → OnlyStruck a.player b.player a.station b.station
-ends-struck true a b e = struck-same a b e
-ends-struck false a b (inl e) = struck-same a b e
-ends-struck false a b (inr r) = failed-struck a.player b.player a.station b.station a.view b.view r
+ends-struck : (w : Bool) (a b : Rest) → Ends w a b
+    → OnlyStruck a.stand.player b.stand.player a.stand.station b.stand.station
+ends-struck true a b e = rest-same a b e
+ends-struck false a b (inl e) = rest-same a b e
+ends-struck false a b (inr r) =
+    failed-struck a.told b.told a.stand.player b.stand.player a.stand.station b.stand.station a.stand.view b.stand.view r
 
 -- a panel that went on so has pressed what was struck
-pub goes_struck : (w : Bool) (p p_then : Player) (old new : Station) (v v_then : View) → Goes w p p_then old new v v_then
-    → OnlyStruck p p_then old new
-goes_struck w p p_then old new v v_then g =
-    struck-then p g.last.player p_then old g.last.station new
-    (rounds-struck g.after_each (stand p old v) g.last g.rounds)
-    (ends-struck w g.last (stand p_then new v_then) g.ends)
+pub goes_struck : (w : Bool) (t t_then : Option (List Told)) (p p_then : Player) (old new : Station) (v v_then : View)
+    → Goes w t t_then p p_then old new v v_then → OnlyStruck p p_then old new
+goes_struck w t t_then p p_then old new v v_then g =
+    struck-then p g.last.stand.player p_then old g.last.stand.station new
+    (rounds-struck g.after_each (rest t p old v) g.last g.rounds)
+    (ends-struck w g.last (rest t_then p_then new v_then) g.ends)

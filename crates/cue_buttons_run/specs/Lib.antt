@@ -1,4 +1,5 @@
 pub mod Playing
 pub mod Pressing
+pub mod Telling
 pub mod Trying
 pub mod Waiting

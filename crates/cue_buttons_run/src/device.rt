@@ -1,7 +1,9 @@
-//! A device that gives bytes.
-ghost use Rattle.std.specs.Prelude.{◌≡◌};
+//! The device that stands at a path.
+ghost use Rattle.std.specs.Prelude.{◌≡◌, None, length};
+ghost use Rattle.cue_buttons_run.specs.Telling.{EndsAt, IsWithin, TakesOff};
 ghost use Rattle.cue_buttons_run.specs.Waiting.{found_nothing, was_interrupted};
 
+use crate::jack::{Came, Jack};
 use mio::unix::SourceFd;
 use mio::{Interest, Registry, Token};
 use std::fs::{self, File, Files, Metadata, OpenOptions};
@@ -12,21 +14,6 @@ use std::os::unix::fs::{FileTypeExt, MetadataExt};
 /// The token of the device in a poll.
 const BYTES: Token = Token(3);
 
-/// What comes of a reading.
-#[derive(Debug, Drop)]
-pub enum Came {
-    /// So many bytes.
-    Bytes(usize),
-    /// Nothing is there at this moment.
-    Nothing,
-    /// A signal came first: nobody knows what is there.
-    Interrupted,
-    /// The file is at its end.
-    Ended,
-    /// It cannot be read any more.
-    Gone(io::Error),
-}
-
 /// What names a file on this machine, whatever path leads to it.
 #[derive(Clone, Copy, PartialEq, Eq)]
 struct Node {
@@ -35,11 +22,18 @@ struct Node {
     device: u64,
 }
 
-/// An open device.
+// An open device.
 #[derive(Drop)]
-pub struct Device {
+struct Device {
     file: File,
     node: Node,
+}
+
+/// The jack of the device at a path. It shows nothing of what it told.
+#[derive(Drop)]
+pub struct PathJack<'a> {
+    path: &'a str,
+    device: Option<Device>,
 }
 
 // Whether a call that failed so only found nothing at this moment.
@@ -88,13 +82,25 @@ fn wake(registry: &Registry, file: &File) {
     let _ = registry.register(&mut SourceFd(&fd), BYTES, Interest::READABLE);
 }
 
+// Reads what is there, into this room: no byte is made up, none is lost, and none is read twice.
+#[tactic(auto, using(crate::proofs::TellingLemmas::takes_none))]
+fn read_from<F: Read>(file: &mut F, room: &mut [u8]) -> Came
+    ensures within { IsWithin result (length room.new) }
+    ensures takes { TakesOff result room.new (F.remaining file.old) (F.remaining file.new) }
+    ensures ends { EndsAt result (length room.new) (F.remaining file.new) }
+{
+    match file.read(room) {
+        Ok(0) => Came::Ended,
+        Ok(n) => Came::Bytes(n),
+        Err(why) if found_nothing(why.kind()) => Came::Nothing,
+        Err(why) if was_interrupted(why.kind()) => Came::Interrupted,
+        Err(why) => Came::Gone(why),
+    }
+}
+
 impl Device {
-    /// Opens the device at this path. It waits only for a sound device that another program holds.
-    pub fn open<R: Files<File = File>>(
-        rt: &R,
-        registry: &Registry,
-        path: &str,
-    ) -> io::Result<Device> {
+    // Opens the device at this path. It waits only for a sound device that another program holds.
+    fn open<R: Files<File = File>>(rt: &R, registry: &Registry, path: &str) -> io::Result<Device> {
         let file = open_at(rt, path)?;
         let node = node_of(&file.metadata()?);
         never_wait(&file)?;
@@ -102,22 +108,49 @@ impl Device {
         Ok(Device { file, node })
     }
 
-    /// Whether the path still names this device.
-    pub fn is_at<R: Files<File = File>>(&self, rt: &R, path: &str) -> bool {
+    // Whether the path still names this device.
+    fn is_at<R: Files<File = File>>(&self, rt: &R, path: &str) -> bool {
         match fs::metadata(rt, path) {
             Ok(metadata) => node_of(&metadata) == self.node,
             Err(_) => false,
         }
     }
+}
 
-    /// Reads what is there, into this room.
-    pub fn read(&mut self, room: &mut [u8]) -> Came {
-        match self.file.read(room) {
-            Ok(0) => Came::Ended,
-            Ok(n) => Came::Bytes(n),
-            Err(why) if found_nothing(why.kind()) => Came::Nothing,
-            Err(why) if was_interrupted(why.kind()) => Came::Interrupted,
-            Err(why) => Came::Gone(why),
+impl<'a> PathJack<'a> {
+    /// The jack at this path; nothing is open.
+    pub fn new(path: &'a str) -> PathJack<'a> {
+        PathJack { path, device: None }
+    }
+}
+
+impl Jack for PathJack<'_> {
+    ghost told = { λ _. None };
+
+    fn is_open(&self) -> bool {
+        self.device.is_some()
+    }
+
+    fn open<R: Files<File = File>>(&mut self, rt: &R, registry: &Registry) -> io::Result<()> {
+        self.device = Some(Device::open(rt, registry, self.path)?);
+        Ok(())
+    }
+
+    fn is_here<R: Files<File = File>>(&self, rt: &R) -> bool {
+        match &self.device {
+            Some(device) => device.is_at(rt, self.path),
+            None => false,
         }
+    }
+
+    fn read(&mut self, room: &mut [u8]) -> Came {
+        match &mut self.device {
+            Some(device) => read_from(&mut device.file, room),
+            None => Came::Interrupted,
+        }
+    }
+
+    fn close(&mut self) {
+        self.device = None;
     }
 }

@@ -1,11 +1,12 @@
 //! The device that is heard, and the rounds of a real desk.
-ghost use Rattle.std.specs.Prelude.{◌≡◌, None, is_ok, is_some};
-ghost use Rattle.cue_buttons_run.specs.Playing.{Goes, HasListened, Hears, HearsCame, Opens, OpensIf, Rounds};
-ghost use Rattle.cue_buttons_run.specs.Playing.{Undoes, bytes_in};
+ghost use Rattle.std.specs.Prelude.{◌≡◌, None, is_ok};
+ghost use Rattle.cue_buttons_run.specs.Playing.{Goes, HasListened, Hears, HearsCame, ListensAt, Opens, Rounds, Undoes};
 ghost use Rattle.cue_buttons_run.specs.Pressing.{OnlyStruck};
+ghost use Rattle.cue_buttons_run.specs.Telling.{bytes_in};
 ghost use Rattle.cue_desk_run.specs.Working.{OnlyLooks};
 
-use crate::device::{Came, Device};
+use crate::device::PathJack;
+use crate::jack::{Came, Jack};
 use crate::panel::Panel;
 use cue_desk::ending::Ending;
 use cue_desk_run::Beat;
@@ -30,11 +31,11 @@ const PIECES_THAT_WAITED: usize = 64;
 /// How many milliseconds lie between two openings, and between two looks at the path.
 const AGAIN: u64 = 1_000;
 
-/// The device that is heard.
+/// What hears the devices at a jack.
 #[derive(Drop)]
-struct Ear<'a> {
+pub struct Ear<'a, J> {
+    jack: J,
     path: &'a str,
-    device: Option<Device>,
     tries: Beat,
     looks: Beat,
     // Whether it was said that it is opened, and that it cannot be.
@@ -82,22 +83,35 @@ fn hear_came<R: Files<File = File> + Net + Clock + AllocGlobal>(
     }
 }
 
-impl<'a> Ear<'a> {
-    // Opens the device, if it is due.
+impl<'a, J: Jack> Ear<'a, J> {
+    /// An ear at this jack, which is called so.
+    pub fn new(jack: J, path: &'a str) -> Ear<'a, J>
+        ensures { result.jack ≡ jack }
+    {
+        Ear {
+            jack,
+            path,
+            tries: Beat::of(AGAIN),
+            looks: Beat::of(AGAIN),
+            is_said: false,
+            is_told: false,
+        }
+    }
+
+    // Tries to open the device. The panel knows of each that is opened.
+    #[tactic(auto, using(crate::proofs::PlayingLemmas::opens_it, crate::proofs::PlayingLemmas::opens_not))]
     fn open<R: Files<File = File> + Net + Clock + AllocGlobal>(
         &mut self,
         rt: &R,
         panel: &mut Panel<'_, R>,
         now: u64,
     ) -> Result<(), AllocError>
-        requires { self.old.device ≡ None }
         ensures desk { panel.new.desk ≡ panel.old.desk }
-        ensures opens { OpensIf (is_some self.new.device) now panel.old.player panel.new.player }
+        ensures opens { Opens now (J.told self.old.jack) (J.told self.new.jack) panel.old.player panel.new.player }
     {
         let path = self.path;
-        match Device::open(rt, panel.registry(), path) {
-            Ok(device) => {
-                self.device = Some(device);
+        match self.jack.open(rt, panel.registry()) {
+            Ok(()) => {
                 panel.opened(now);
                 panel.line(format_args!("hearing {path}"))?;
             }
@@ -112,19 +126,16 @@ impl<'a> Ear<'a> {
     }
 
     // Reads a piece of what is there, and lets the panel hear it. Answers whether there may be more.
-    #[tactic(auto, using(crate::proofs::PlayingLemmas::hears_none, crate::proofs::PlayingLemmas::hears_came))]
+    #[tactic(auto, using(crate::proofs::PlayingLemmas::hears_came))]
     fn hear_piece<R: Files<File = File> + Net + Clock + AllocGlobal>(
         &mut self,
         panel: &mut Panel<'_, R>,
     ) -> Result<Result<bool, Silence>, AllocError>
-        ensures { Hears (is_ok result) panel.old.player panel.new.player panel.old.desk.station panel.new.desk.station
-            panel.old.desk.view panel.new.desk.view }
+        ensures { Hears (is_ok result) (J.told self.old.jack) (J.told self.new.jack) panel.old.player panel.new.player
+            panel.old.desk.station panel.new.desk.station panel.old.desk.view panel.new.desk.view }
     {
-        let Some(device) = &mut self.device else {
-            return Ok(Ok(false));
-        };
         let mut piece = [0; PIECE];
-        let came = device.read(&mut piece);
+        let came = self.jack.read(&mut piece);
         hear_came(panel, &piece, came)
     }
 
@@ -134,8 +145,8 @@ impl<'a> Ear<'a> {
         &mut self,
         panel: &mut Panel<'_, R>,
     ) -> Result<Option<Silence>, AllocError>
-        ensures { Hears (is_ok result) panel.old.player panel.new.player panel.old.desk.station panel.new.desk.station
-            panel.old.desk.view panel.new.desk.view }
+        ensures { Hears (is_ok result) (J.told self.old.jack) (J.told self.new.jack) panel.old.player panel.new.player
+            panel.old.desk.station panel.new.desk.station panel.old.desk.view panel.new.desk.view }
     {
         let most = if panel.is_settled() {
             PIECES
@@ -152,12 +163,23 @@ impl<'a> Ear<'a> {
         Ok(None)
     }
 
-    // Whether the path names something else by now.
-    fn is_elsewhere<R: Files<File = File>>(&mut self, rt: &R, now: u64) -> bool {
-        match &self.device {
-            Some(device) => self.looks.is_due(now) && !device.is_at(rt, self.path),
-            None => false,
+    // Why the device is heard no more: a reading said so, or something else stands at the jack by now.
+    fn silence<R: Files<File = File>>(
+        &mut self,
+        rt: &R,
+        now: u64,
+        heard: Option<Silence>,
+    ) -> Option<Silence>
+        ensures { self.new.jack ≡ self.old.jack }
+    {
+        if heard.is_none()
+            && self.jack.is_open()
+            && self.looks.is_due(now)
+            && !self.jack.is_here(rt)
+        {
+            return Some(Silence::Gone(None));
         }
+        heard
     }
 
     // Says that the device is heard no more. Answers whether that is the end.
@@ -168,9 +190,10 @@ impl<'a> Ear<'a> {
     ) -> Result<bool, AllocError>
         ensures desk { panel.new.desk ≡ panel.old.desk }
         ensures player { panel.new.player ≡ panel.old.player }
+        ensures told { J.told self.new.jack ≡ J.told self.old.jack }
     {
         let path = self.path;
-        self.device = None;
+        self.jack.close();
         self.is_told = false;
         self.is_said = false;
         match silence {
@@ -185,11 +208,32 @@ impl<'a> Ear<'a> {
         panel.say_tally()?;
         Ok(matches!(silence, Silence::Ended))
     }
+
+    // Hears what is there, and says so if the device is heard no more. Answers whether that is the end.
+    fn hear_out<R: Files<File = File> + Net + Clock + AllocGlobal>(
+        &mut self,
+        rt: &R,
+        panel: &mut Panel<'_, R>,
+        now: u64,
+    ) -> Result<bool, AllocError>
+        ensures { Hears (is_ok result) (J.told self.old.jack) (J.told self.new.jack) panel.old.player panel.new.player
+            panel.old.desk.station panel.new.desk.station panel.old.desk.view panel.new.desk.view }
+    {
+        let heard = self.hear(panel)?;
+        match self.silence(rt, now, heard) {
+            Some(silence) => self.close(panel, &silence),
+            None => Ok(false),
+        }
+    }
 }
 
 // Says that the device is opened: if it is held by another program, nothing follows.
-fn say_opening<W: Write>(alloc: Global, ear: &mut Ear<'_>, writer: &mut W) -> Result<(), Ending>
-    ensures { ear.new.device ≡ ear.old.device }
+fn say_opening<J: Jack, W: Write>(
+    alloc: Global,
+    ear: &mut Ear<'_, J>,
+    writer: &mut W,
+) -> Result<(), Ending>
+    ensures { ear.new.jack ≡ ear.old.jack }
 {
     if ear.is_said {
         return Ok(());
@@ -201,18 +245,18 @@ fn say_opening<W: Write>(alloc: Global, ear: &mut Ear<'_>, writer: &mut W) -> Re
 }
 
 // Opens the device if it is not open, and that is due.
-#[tactic(auto, using(crate::proofs::PlayingLemmas::opens_if, crate::proofs::PlayingLemmas::opens_none))]
-fn open_if_due<R: Files<File = File> + Net + Clock + AllocGlobal, W: Write>(
+#[tactic(auto, using(crate::proofs::PlayingLemmas::opens_none))]
+fn open_if_due<R: Files<File = File> + Net + Clock + AllocGlobal, J: Jack, W: Write>(
     rt: &R,
-    ear: &mut Ear<'_>,
+    ear: &mut Ear<'_, J>,
     panel: &mut Panel<'_, R>,
     now: u64,
     writer: &mut W,
 ) -> Result<(), Ending>
     ensures desk { panel.new.desk ≡ panel.old.desk }
-    ensures opens { Opens now panel.old.player panel.new.player }
+    ensures opens { Opens now (J.told ear.old.jack) (J.told ear.new.jack) panel.old.player panel.new.player }
 {
-    if ear.device.is_none() && ear.tries.is_due(now) {
+    if !ear.jack.is_open() && ear.tries.is_due(now) {
         say_opening(rt.alloc(), ear, writer)?;
         ear.open(rt, panel, now)?;
     }
@@ -220,40 +264,31 @@ fn open_if_due<R: Files<File = File> + Net + Clock + AllocGlobal, W: Write>(
 }
 
 // Opens the device if it is not open, and hears what is there. Answers whether it has ended.
-fn listen<R: Files<File = File> + Net + Clock + AllocGlobal, W: Write>(
+fn listen<R: Files<File = File> + Net + Clock + AllocGlobal, J: Jack, W: Write>(
     rt: &R,
-    ear: &mut Ear<'_>,
+    ear: &mut Ear<'_, J>,
     panel: &mut Panel<'_, R>,
     now: u64,
     writer: &mut W,
 ) -> Result<bool, Ending>
-    ensures { HasListened (is_ok result) panel.old.player panel.new.player panel.old.desk.station panel.new.desk.station
-        panel.old.desk.view panel.new.desk.view }
+    ensures { ListensAt (is_ok result) now (J.told ear.old.jack) (J.told ear.new.jack) panel.old.player panel.new.player
+        panel.old.desk.station panel.new.desk.station panel.old.desk.view panel.new.desk.view }
 {
     open_if_due(rt, ear, panel, now, writer)?;
     panel.begin(now);
-    let heard = ear.hear(panel)?;
-    let silence = if heard.is_none() && ear.is_elsewhere(rt, now) {
-        Some(Silence::Gone(None))
-    } else {
-        heard
-    };
-    match &silence {
-        Some(silence) => Ok(ear.close(panel, silence)?),
-        None => Ok(false),
-    }
+    Ok(ear.hear_out(rt, panel, now)?)
 }
 
 // Hears who presses. Answers whether the device has ended.
-#[tactic(auto, using(crate::proofs::PlayingLemmas::opens_none))]
-fn hear_now<R: Files<File = File> + Net + Clock + Eprint + AllocGlobal, W: Write>(
+#[tactic(auto, using(crate::proofs::PlayingLemmas::has_listened, crate::proofs::PlayingLemmas::has_not_listened))]
+fn hear_now<R: Files<File = File> + Net + Clock + Eprint + AllocGlobal, J: Jack, W: Write>(
     rt: &R,
-    ear: &mut Ear<'_>,
+    ear: &mut Ear<'_, J>,
     panel: &mut Panel<'_, R>,
     writer: &mut W,
 ) -> Result<bool, Ending>
-    ensures { HasListened (is_ok result) panel.old.player panel.new.player panel.old.desk.station panel.new.desk.station
-        panel.old.desk.view panel.new.desk.view }
+    ensures { HasListened (is_ok result) (J.told ear.old.jack) (J.told ear.new.jack) panel.old.player panel.new.player
+        panel.old.desk.station panel.new.desk.station panel.old.desk.view panel.new.desk.view }
 {
     match panel.now() {
         Ok(now) => listen(rt, ear, panel, now, writer),
@@ -294,14 +329,14 @@ fn tell<R: Files<File = File> + Net + Clock + Eprint + AllocGlobal, W: Write>(
 }
 
 // One round: who presses is heard first. Answers whether the device has ended.
-fn round<R: Files<File = File> + Net + Clock + Eprint + AllocGlobal, W: Write>(
+fn round<R: Files<File = File> + Net + Clock + Eprint + AllocGlobal, J: Jack, W: Write>(
     rt: &R,
-    ear: &mut Ear<'_>,
+    ear: &mut Ear<'_, J>,
     panel: &mut Panel<'_, R>,
     writer: &mut W,
 ) -> Result<bool, Ending>
-    ensures { Rounds (is_ok result) panel.old.player panel.new.player panel.old.desk.station panel.new.desk.station
-        panel.old.desk.view panel.new.desk.view }
+    ensures { Rounds (is_ok result) (J.told ear.old.jack) (J.told ear.new.jack) panel.old.player panel.new.player
+        panel.old.desk.station panel.new.desk.station panel.old.desk.view panel.new.desk.view }
 {
     let has_ended = hear_now(rt, ear, panel, writer)?;
     look(rt, panel)?;
@@ -325,14 +360,14 @@ fn wait<R: Files<File = File> + Net + Clock + Eprint + AllocGlobal>(
 }
 
 // One round, and then it waits, unless the device has ended: it answers whether it has.
-fn go_on<R: Files<File = File> + Net + Clock + Eprint + AllocGlobal, W: Write>(
+fn go_on<R: Files<File = File> + Net + Clock + Eprint + AllocGlobal, J: Jack, W: Write>(
     rt: &R,
-    ear: &mut Ear<'_>,
+    ear: &mut Ear<'_, J>,
     panel: &mut Panel<'_, R>,
     writer: &mut W,
 ) -> Result<bool, Ending>
-    ensures { Rounds (is_ok result) panel.old.player panel.new.player panel.old.desk.station panel.new.desk.station
-        panel.old.desk.view panel.new.desk.view }
+    ensures { Rounds (is_ok result) (J.told ear.old.jack) (J.told ear.new.jack) panel.old.player panel.new.player
+        panel.old.desk.station panel.new.desk.station panel.old.desk.view panel.new.desk.view }
 {
     let has_ended = round(rt, ear, panel, writer)?;
     if !has_ended {
@@ -341,15 +376,16 @@ fn go_on<R: Files<File = File> + Net + Clock + Eprint + AllocGlobal, W: Write>(
     Ok(has_ended)
 }
 
-// Hears until the device ends, or a signal ends it.
-fn hear_on<R: Files<File = File> + Net + Clock + Eprint + AllocGlobal, W: Write>(
+/// Hears the devices at a jack until one ends, or a signal ends it, and goes on round by round. In each round what the
+/// jack told is heard, each byte once and in order, and nothing else is.
+pub fn hear_on<R: Files<File = File> + Net + Clock + Eprint + AllocGlobal, J: Jack, W: Write>(
     rt: &R,
-    ear: &mut Ear<'_>,
+    ear: &mut Ear<'_, J>,
     panel: &mut Panel<'_, R>,
     writer: &mut W,
 ) -> Result<(), Ending>
-    ensures { Goes (is_ok result) panel.old.player panel.new.player panel.old.desk.station panel.new.desk.station
-        panel.old.desk.view panel.new.desk.view }
+    ensures { Goes (is_ok result) (J.told ear.old.jack) (J.told ear.new.jack) panel.old.player panel.new.player
+        panel.old.desk.station panel.new.desk.station panel.old.desk.view panel.new.desk.view }
 {
     for _ in 0..u64::MAX {
         if go_on(rt, ear, panel, writer)? {
@@ -369,18 +405,11 @@ pub fn hear_all<R: Files<File = File> + Net + Clock + Eprint + AllocGlobal, W: W
     panel: &mut Panel<'_, R>,
     writer: &mut W,
 ) -> Result<(), Ending>
-    ensures goes { Goes (is_ok result) panel.old.player panel.new.player panel.old.desk.station panel.new.desk.station
-        panel.old.desk.view panel.new.desk.view }
+    ensures goes { Goes (is_ok result) None None panel.old.player panel.new.player panel.old.desk.station
+        panel.new.desk.station panel.old.desk.view panel.new.desk.view }
     ensures struck { OnlyStruck panel.old.player panel.new.player panel.old.desk.station panel.new.desk.station }
 {
     panel.say_keys()?;
-    let mut ear = Ear {
-        path,
-        device: None,
-        tries: Beat::of(AGAIN),
-        looks: Beat::of(AGAIN),
-        is_said: false,
-        is_told: false,
-    };
+    let mut ear = Ear::new(PathJack::new(path), path);
     hear_on(rt, &mut ear, panel, writer)
 }

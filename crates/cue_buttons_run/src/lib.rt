@@ -10,17 +10,23 @@
 //! - A device that is taken out ends the reading with an error. Of a path that names something else by now nobody
 //!   tells, so it is looked at each second.
 //!
-//! Only tested: the device, which of its bytes are heard and when, and the lines.
+//! What a device gives comes through a jack, which tells of it (`Jack`): so the law says that what was read is heard,
+//! each byte once, and nothing else.
+//!
+//! Only tested: what the system gives of a device, how long it is waited for, and the lines.
 #![tactic(auto)]
 
 mod device;
 mod hand;
 mod hearing;
+mod jack;
 mod panel;
 mod player;
 mod pressing;
 
+pub use device::PathJack;
 pub use hand::Hand;
-pub use hearing::hear_all;
+pub use hearing::{Ear, hear_all, hear_on};
+pub use jack::{Came, Jack};
 pub use panel::Panel;
 pub use player::Setting;

@@ -1,6 +1,6 @@
 //! What is heard of a real desk, and what it presses, as lines of text.
 ghost use Rattle.std.specs.Prelude.{◌≡◌, [], is_ok};
-ghost use Rattle.cue_buttons_run.specs.Playing.{Gives, GivesAll, IsOpened, begun_at, by_hand};
+ghost use Rattle.cue_buttons_run.specs.Playing.{Gives, GivesAll, IsOpened, begun_at, by_hand, is_settled};
 ghost use Rattle.cue_buttons_run.specs.Pressing.{DoesPress, Strikes, StrikesBy, StrikesSpoken, Takes};
 ghost use Rattle.cue_midi.specs.Stream.{IsAfter};
 ghost use Rattle.cue_presses.specs.Address.{spoken_to};
@@ -146,7 +146,9 @@ impl<'a, R: Files<File = File> + Net + Clock + AllocGlobal> Panel<'a, R> {
     }
 
     /// Whether what is read may press: nothing of it waited in the device.
-    pub fn is_settled(&self) -> bool {
+    pub fn is_settled(&self) -> bool
+        ensures { result ≡ is_settled self.now.player }
+    {
         self.player.hand.settling.is_over()
     }
 

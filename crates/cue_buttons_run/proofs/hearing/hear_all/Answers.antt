@@ -1,4 +1,4 @@
-use Rattle.std.proofs.Common.{ap, false}
+use Rattle.std.proofs.Common.{ap, false, None}
 use Rattle.std.specs.Prelude.{is_ok}
 use Rattle.cue_buttons_run.proofs.StruckLemmas.{goes_struck}
 use Rattle.cue_buttons_run.proofs.PlayingLemmas.{goes_from, goes_same}
@@ -6,17 +6,17 @@ use Rattle.cue_buttons_run.proofs.hearing.hear_all.Goals as goal
 
 pub returns-in_err-say_keys-clause-struck : goal.returns-in_err-say_keys-clause-struck
 returns-in_err-say_keys-clause-struck g c =
-    goes_struck false c.args.panel.now.player c.say_keys.new.self.player c.args.panel.now.desk.station
-    c.say_keys.new.self.desk.station c.args.panel.now.desk.view c.say_keys.new.self.desk.view (goes_same false
+    goes_struck false None None c.args.panel.now.player c.say_keys.new.self.player c.args.panel.now.desk.station
+    c.say_keys.new.self.desk.station c.args.panel.now.desk.view c.say_keys.new.self.desk.view (goes_same false None
     c.args.panel.now.player c.say_keys.new.self.player c.args.panel.now.desk.station c.say_keys.new.self.desk.station
     c.args.panel.now.desk.view c.say_keys.new.self.desk.view c.say_keys.ensures.player (ap (λ d. d.station)
     c.say_keys.ensures.desk) (ap (λ d. d.view) c.say_keys.ensures.desk))
 
 pub returns-clause-struck : goal.returns-clause-struck
 returns-clause-struck g c =
-    goes_struck (is_ok c.hear_on.result) c.args.panel.now.player c.hear_on.new.panel.player
+    goes_struck (is_ok c.hear_on.result) None None c.args.panel.now.player c.hear_on.new.panel.player
     c.args.panel.now.desk.station c.hear_on.new.panel.desk.station c.args.panel.now.desk.view
-    c.hear_on.new.panel.desk.view (goes_from (is_ok c.hear_on.result) c.args.panel.now.player
+    c.hear_on.new.panel.desk.view (goes_from (is_ok c.hear_on.result) None None c.args.panel.now.player
     c.say_keys.new.self.player c.hear_on.new.panel.player c.args.panel.now.desk.station
     c.say_keys.new.self.desk.station c.hear_on.new.panel.desk.station c.args.panel.now.desk.view
     c.say_keys.new.self.desk.view c.hear_on.new.panel.desk.view c.say_keys.ensures.player (ap (λ d. d.station)

@@ -4,15 +4,18 @@ use Rattle.cue_buttons_run.proofs.hearing.round.Goals as goal
 
 pub returns-in_err-has_ended : goal.returns-in_err-has_ended
 returns-in_err-has_ended g c =
-    rounds_fails c.from_residual.result c.args.panel.now.player c.hear_now.new.panel.player
+    rounds_fails c.from_residual.result (g.J.Jack.told c.args.ear.now.jack) (g.J.Jack.told c.hear_now.new.ear.jack)
+    c.args.panel.now.player c.hear_now.new.panel.player
     c.args.panel.now.desk.station c.hear_now.new.panel.desk.station c.args.panel.now.desk.view
     c.hear_now.new.panel.desk.view c.from_residual.ensures.0 (inl c.in_err-has_ended.ensures)
 
 pub returns-in_err-look : goal.returns-in_err-look
 returns-in_err-look g c =
-    rounds_fails c.from_residual-in_err-look.result c.args.panel.now.player c.look.new.panel.player
+    rounds_fails c.from_residual-in_err-look.result (g.J.Jack.told c.args.ear.now.jack) (g.J.Jack.told c.hear_now.new.ear.jack)
+    c.args.panel.now.player c.look.new.panel.player
     c.args.panel.now.desk.station c.look.new.panel.desk.station c.args.panel.now.desk.view c.look.new.panel.desk.view
-    c.from_residual-in_err-look.ensures.0 (inr (is_round c.args.panel.now.player c.hear_now.new.panel.player
+    c.from_residual-in_err-look.ensures.0 (inr (is_round (g.J.Jack.told c.args.ear.now.jack) (g.J.Jack.told c.hear_now.new.ear.jack)
+    c.args.panel.now.player c.hear_now.new.panel.player
     c.look.new.panel.player c.look.new.panel.player c.args.panel.now.desk.station c.hear_now.new.panel.desk.station
     c.look.new.panel.desk.station c.look.new.panel.desk.station c.args.panel.now.desk.view
     c.hear_now.new.panel.desk.view c.look.new.panel.desk.view c.look.new.panel.desk.view c.in_ok-has_ended.ensures
@@ -20,9 +23,11 @@ returns-in_err-look g c =
 
 pub returns-in_err-tell : goal.returns-in_err-tell
 returns-in_err-tell g c =
-    rounds_fails c.from_residual-in_err-tell.result c.args.panel.now.player c.tell.new.panel.player
+    rounds_fails c.from_residual-in_err-tell.result (g.J.Jack.told c.args.ear.now.jack) (g.J.Jack.told c.hear_now.new.ear.jack)
+    c.args.panel.now.player c.tell.new.panel.player
     c.args.panel.now.desk.station c.tell.new.panel.desk.station c.args.panel.now.desk.view c.tell.new.panel.desk.view
-    c.from_residual-in_err-tell.ensures.0 (inr (is_round c.args.panel.now.player c.hear_now.new.panel.player
+    c.from_residual-in_err-tell.ensures.0 (inr (is_round (g.J.Jack.told c.args.ear.now.jack) (g.J.Jack.told c.hear_now.new.ear.jack)
+    c.args.panel.now.player c.hear_now.new.panel.player
     c.look.new.panel.player c.tell.new.panel.player c.args.panel.now.desk.station c.hear_now.new.panel.desk.station
     c.look.new.panel.desk.station c.tell.new.panel.desk.station c.args.panel.now.desk.view
     c.hear_now.new.panel.desk.view c.look.new.panel.desk.view c.tell.new.panel.desk.view c.in_ok-has_ended.ensures
@@ -30,7 +35,8 @@ returns-in_err-tell g c =
 
 pub returns : goal.returns
 returns g c =
-    is_round c.args.panel.now.player c.hear_now.new.panel.player c.look.new.panel.player c.tell.new.panel.player
+    is_round (g.J.Jack.told c.args.ear.now.jack) (g.J.Jack.told c.hear_now.new.ear.jack)
+    c.args.panel.now.player c.hear_now.new.panel.player c.look.new.panel.player c.tell.new.panel.player
     c.args.panel.now.desk.station c.hear_now.new.panel.desk.station c.look.new.panel.desk.station
     c.tell.new.panel.desk.station c.args.panel.now.desk.view c.hear_now.new.panel.desk.view c.look.new.panel.desk.view
     c.tell.new.panel.desk.view c.in_ok-has_ended.ensures c.look.ensures.looks c.look.ensures.player

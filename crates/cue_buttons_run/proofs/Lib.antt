@@ -3,3 +3,4 @@ pub mod PressLemmas
 pub mod StruckLemmas
 pub mod TellingLemmas
 pub mod TryLemmas
+pub mod WholeLemmas

@@ -3,3 +3,4 @@ pub mod Pressing
 pub mod Telling
 pub mod Trying
 pub mod Waiting
+pub mod Whole

@@ -1,8 +1,9 @@
 //! The device that is heard, and the rounds of a real desk.
-ghost use Rattle.std.specs.Prelude.{◌≡◌, None, is_ok};
+ghost use Rattle.std.specs.Prelude.{◌≡◌, None, OnOk, is_ok};
 ghost use Rattle.cue_buttons_run.specs.Playing.{Goes, HasListened, Hears, HearsCame, ListensAt, Opens, Rounds, Undoes};
 ghost use Rattle.cue_buttons_run.specs.Pressing.{OnlyStruck};
 ghost use Rattle.cue_buttons_run.specs.Telling.{bytes_in};
+ghost use Rattle.cue_buttons_run.specs.Whole.{HearsAll};
 ghost use Rattle.cue_desk_run.specs.Working.{OnlyLooks};
 
 use crate::device::PathJack;
@@ -377,15 +378,18 @@ fn go_on<R: Files<File = File> + Net + Clock + Eprint + AllocGlobal, J: Jack, W:
 }
 
 /// Hears the devices at a jack until one ends, or a signal ends it, and goes on round by round. In each round what the
-/// jack told is heard, each byte once and in order, and nothing else is.
+/// jack told is heard, each byte once and in order, and nothing else is; and so it is over all rounds together.
+#[tactic(auto, using(crate::proofs::WholeLemmas::hears_all))]
 pub fn hear_on<R: Files<File = File> + Net + Clock + Eprint + AllocGlobal, J: Jack, W: Write>(
     rt: &R,
     ear: &mut Ear<'_, J>,
     panel: &mut Panel<'_, R>,
     writer: &mut W,
 ) -> Result<(), Ending>
-    ensures { Goes (is_ok result) (J.told ear.old.jack) (J.told ear.new.jack) panel.old.player panel.new.player
+    ensures goes { Goes (is_ok result) (J.told ear.old.jack) (J.told ear.new.jack) panel.old.player panel.new.player
         panel.old.desk.station panel.new.desk.station panel.old.desk.view panel.new.desk.view }
+    ensures heard { OnOk result (HearsAll (J.told ear.old.jack) (J.told ear.new.jack) panel.old.player panel.new.player
+        panel.old.desk.station panel.new.desk.station panel.old.desk.view panel.new.desk.view) }
 {
     for _ in 0..u64::MAX {
         if go_on(rt, ear, panel, writer)? {

@@ -20,4 +20,4 @@ returns-clause-struck g c =
     c.say_keys.new.self.player c.hear_on.new.panel.player c.args.panel.now.desk.station
     c.say_keys.new.self.desk.station c.hear_on.new.panel.desk.station c.args.panel.now.desk.view
     c.say_keys.new.self.desk.view c.hear_on.new.panel.desk.view c.say_keys.ensures.player (ap (λ d. d.station)
-    c.say_keys.ensures.desk) (ap (λ d. d.view) c.say_keys.ensures.desk) c.hear_on.ensures)
+    c.say_keys.ensures.desk) (ap (λ d. d.view) c.say_keys.ensures.desk) c.hear_on.ensures.goes)

@@ -14,7 +14,8 @@ use Rattle.cue_view.specs.declared.view.Said.{Said}
 use Rattle.cue_view.specs.declared.view.View.{View}
 use Rattle.cue_buttons_run.specs.Playing.{AllHappen, AllRounds, Ends, Gives, GivesAll, Goes, Happening, HasListened}
 use Rattle.cue_buttons_run.specs.Playing.{HeardAs, Hears, HearsCame, IsCut, IsOpened, IsRound, ListensAt, Opens}
-use Rattle.cue_buttons_run.specs.Playing.{Rest, RoundFrom, Rounds, Stand, TellsUndone, Undoes, begun_at, by_hand, cut_at}
+use Rattle.cue_buttons_run.specs.Playing.{Rest, RoundFrom, Rounds, Stand, TellsUndone, Undoes}
+use Rattle.cue_buttons_run.specs.Playing.{begun_at, by_hand, cut_at}
 use Rattle.cue_buttons_run.specs.Playing.{empties, gives, happen_by, happens_by, is_undone, rest, stand}
 use Rattle.cue_buttons_run.specs.Pressing.{Takes}
 use Rattle.cue_buttons_run.specs.Telling.{Reading, Told, bytes_in, gave, nothing, opened, reads, silent}
@@ -161,7 +162,8 @@ pub hears_then : (w : Bool) (t t_mid t_then : Option (List Told)) (p mid p_then 
 hears_then w t t_mid t_then p mid p_then old between new v v_mid v_then a b =
     record {
       readings = a.readings ++ b.readings;
-      read = subst (λ (xs : List Told). Grew t xs t_then) (sym (map-append (λ (r : Reading). reads r) a.readings b.readings))
+      read = subst (λ (xs : List Told). Grew t xs t_then)
+          (sym (map-append (λ (r : Reading). reads r) a.readings b.readings))
           (grew_both t (map (λ (r : Reading). reads r) a.readings) t_mid (map (λ (r : Reading). reads r) b.readings)
           t_then a.read b.read);
       happened = a.happened ++ b.happened;
@@ -201,7 +203,8 @@ heard-given false bytes p p_then old new v v_then g =
 
 -- it gave none
 hears-silent : (w : Bool) (t t_then : Option (List Told)) (p p_then : Player) (old new : Station) (v v_then : View)
-    → Grew t (reads silent ∷ []) t_then → p_then ≡ p → Stays old new v v_then → Hears w t t_then p p_then old new v v_then
+    → Grew t (reads silent ∷ []) t_then → p_then ≡ p → Stays old new v v_then
+    → Hears w t t_then p p_then old new v v_then
 hears-silent w t t_then p p_then old new v v_then told same stays =
     record {
       readings = silent ∷ [];
@@ -239,7 +242,8 @@ hears_came w (came.Gone why) room t t_then p p_then old new v v_then told h =
     hears-silent w t t_then p p_then old new v v_then told h.0 h.1
 
 -- The first so many were given.
-pub record GivenFirst (count : ℕ) (bytes : List ℕ) (p p_then : Player) (old new : Station) (v v_then : View) : Type 0 where
+pub record GivenFirst (count : ℕ) (bytes : List ℕ) (p p_then : Player) (old new : Station)
+    (v v_then : View) : Type 0 where
   pub happens : AllHappen (givens (take count bytes)) (stand p old v) (stand p_then new v_then)
 
 pub first_none : (bytes : List ℕ) (p : Player) (s : Station) (v : View) → GivenFirst 0 bytes p p s s v v
@@ -305,7 +309,8 @@ pub listens : (w : Bool) (now : ℕ) (t t_mid t_then : Option (List Told)) (p re
     → v_mid ≡ v → begins ≡ begun_at now ready → between ≡ mid → v_between ≡ v_mid
     → Hears w t_mid t_then begins p_then between new v_between v_then
     → ListensAt w now t t_then p p_then old new v v_then
-listens w now t t_mid t_then p ready begins p_then old mid between new v v_mid v_between v_then opens a b begun c d hears =
+listens w now t t_mid t_then p ready begins p_then old mid between new v v_mid v_between v_then opens a b begun c d
+    hears =
     listens-by w now t t_mid t_then p ready p_then old new v v_then opens
     (subst (λ (x : Player). Hears w t_mid t_then x p_then old new v v_then) begun
     (subst (λ (x : Station). Hears w t_mid t_then begins p_then x new v v_then) (c ∙ a)

@@ -5,7 +5,8 @@ use Rattle.cue_machine.specs.Growing.{Grew}
 use Rattle.cue_machine.proofs.LivingLemmas.{grew_both, grew_none}
 use Rattle.cue_station.specs.declared.station.Station.{Station}
 use Rattle.cue_view.specs.declared.view.View.{View}
-use Rattle.cue_buttons_run.specs.Playing.{AllRounds, Goes, Happening, Listens, Rest, RoundFrom, empties, gives, happen_by}
+use Rattle.cue_buttons_run.specs.Playing.{AllRounds, Goes, Happening, Listens, Rest, RoundFrom}
+use Rattle.cue_buttons_run.specs.Playing.{empties, gives, happen_by}
 use Rattle.cue_buttons_run.specs.Playing.{happens_by, rest}
 use Rattle.cue_buttons_run.specs.Telling.{Reading, Told, bytes_of, gave, nothing, opened, opened_if, reads, silent}
 use Rattle.cue_buttons_run.specs.Whole.{HearsAll, bytes_heard, bytes_told, happened_in}

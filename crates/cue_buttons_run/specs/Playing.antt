@@ -203,7 +203,8 @@ HasListened w told told_then p p_then old new v v_then =
     (now : ℕ) × ListensAt w now told told_then p p_then old new v v_then
 
 -- A whole round: it listens, and then the desk looks at the controller and the store. While that looks nothing is read.
-pub record IsRound (told told_then : Option (List Told)) (p p_then : Player) (old new : Station) (v v_then : View) : Type 0 where
+pub record IsRound (told told_then : Option (List Told)) (p p_then : Player) (old new : Station)
+    (v v_then : View) : Type 0 where
   pub mid : Stand
   pub listens : HasListened true told told_then p mid.player old mid.station v mid.view
   pub looks : OnlyLooks mid.station new

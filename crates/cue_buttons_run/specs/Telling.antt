@@ -1,5 +1,6 @@
 -- What a jack tells of the devices that stand at it, and what a reading takes of a file.
-use Rattle.std.specs.Prelude.{◌≤◌, ◌<◌, ℕ, Bool, true, false, List, [], ◌∷◌, take, length, Option, if◌then◌else◌, nat_le}
+use Rattle.std.specs.Prelude.{◌≤◌, ◌<◌, ℕ, Bool, true, false, List, [], ◌∷◌}
+use Rattle.std.specs.Prelude.{take, length, Option, if◌then◌else◌, nat_le}
 use Rattle.std.specs.Io.KnownBytes.{Consumes, IsAtEnd}
 use Rattle.cue_buttons_run.specs.declared.jack.Came.{Came}
 use Rattle.cue_buttons_run.specs.declared.jack.Came.TheVariants as came

@@ -26,7 +26,8 @@ happened_in (s ∷ more) a b all = all.0.listens.1.hears.happened ++ happened_in
 
 -- The panel went on round by round. Over all rounds the jack told this, and the bytes that the panel heard are the
 -- bytes of that: each once, in order, and no other.
-pub record HearsAll (told told_then : Option (List Told)) (p p_then : Player) (old new : Station) (v v_then : View) : Type 0 where
+pub record HearsAll (told told_then : Option (List Told)) (p p_then : Player) (old new : Station)
+    (v v_then : View) : Type 0 where
   pub goes : Goes true told told_then p p_then old new v v_then
   pub more : List Told
   pub grew : Grew told more told_then

@@ -1,25 +1,24 @@
 //! The device that is heard, and the rounds of a real desk.
 ghost use Rattle.std.specs.Prelude.{◌≡◌, None, OnOk, is_ok};
-ghost use Rattle.cue_buttons_run.specs.Playing.{Goes, HasListened, Hears, HearsCame, ListensAt, Opens, Rounds, Undoes};
+ghost use Rattle.cue_buttons_run.specs.Playing.{Goes, HasListened, Hears, HearsCame, ListensAt, Opens, Rounds};
 ghost use Rattle.cue_buttons_run.specs.Pressing.{OnlyStruck};
 ghost use Rattle.cue_buttons_run.specs.Telling.{bytes_in};
 ghost use Rattle.cue_buttons_run.specs.Whole.{HearsAll};
-ghost use Rattle.cue_desk_run.specs.Working.{OnlyLooks};
+
+mod beside;
 
 use crate::device::PathJack;
+use crate::hearing::beside::{look, tell, wait};
 use crate::jack::{Came, Jack};
 use crate::panel::Panel;
 use cue_desk::ending::Ending;
 use cue_desk_run::Beat;
-use cue_saying::{failed, print, say_fault};
+use cue_saying::{failed, print};
 use std::alloc::{AllocError, Global};
 use std::fs::{File, Files};
 use std::io::{self, Eprint, Write};
 use std::net::Net;
 use std::time::Clock;
-
-/// How long a round waits at most, in milliseconds.
-const PAUSE: u64 = 20;
 
 /// How many bytes are read at once, and how many times in a round.
 const PIECE: usize = 1_024;
@@ -297,38 +296,6 @@ fn hear_now<R: Files<File = File> + Net + Clock + Eprint + AllocGlobal, J: Jack,
     }
 }
 
-// Hears the controller and the store.
-fn look<R: Files<File = File> + Net + Clock + Eprint + AllocGlobal>(
-    rt: &R,
-    panel: &mut Panel<'_, R>,
-) -> Result<(), Ending>
-    ensures looks { OnlyLooks panel.old.desk.station panel.new.desk.station }
-    ensures player { Undoes panel.old.player panel.new.player panel.new.desk.view }
-{
-    match panel.round() {
-        Ok(()) => Ok(()),
-        Err(why) => Err(failed(rt, &why)),
-    }
-}
-
-// Prints what there is to tell.
-fn tell<R: Files<File = File> + Net + Clock + Eprint + AllocGlobal, W: Write>(
-    rt: &R,
-    panel: &mut Panel<'_, R>,
-    writer: &mut W,
-) -> Result<(), Ending>
-    ensures station { panel.new.desk.station ≡ panel.old.desk.station }
-    ensures view { panel.new.desk.view ≡ panel.old.desk.view }
-    ensures player { panel.new.player ≡ panel.old.player }
-{
-    let text = panel.take_text()?;
-    if !text.is_empty() {
-        print(writer, text.as_str())?;
-    }
-    say_fault(rt, panel.take_fault());
-    Ok(())
-}
-
 // One round: who presses is heard first. Answers whether the device has ended.
 fn round<R: Files<File = File> + Net + Clock + Eprint + AllocGlobal, J: Jack, W: Write>(
     rt: &R,
@@ -343,21 +310,6 @@ fn round<R: Files<File = File> + Net + Clock + Eprint + AllocGlobal, J: Jack, W:
     look(rt, panel)?;
     tell(rt, panel, writer)?;
     Ok(has_ended)
-}
-
-// Waits until something comes.
-fn wait<R: Files<File = File> + Net + Clock + Eprint + AllocGlobal>(
-    rt: &R,
-    panel: &mut Panel<'_, R>,
-) -> Result<(), Ending>
-    ensures station { panel.new.desk.station ≡ panel.old.desk.station }
-    ensures view { panel.new.desk.view ≡ panel.old.desk.view }
-    ensures player { panel.new.player ≡ panel.old.player }
-{
-    match panel.wait(PAUSE) {
-        Ok(()) => Ok(()),
-        Err(why) => Err(failed(rt, &why)),
-    }
 }
 
 // One round, and then it waits, unless the device has ended: it answers whether it has.

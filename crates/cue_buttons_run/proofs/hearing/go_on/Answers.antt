@@ -4,10 +4,12 @@ use Rattle.cue_buttons_run.proofs.hearing.go_on.Goals as goal
 
 pub returns-in_err-wait : goal.returns-in_err-wait
 returns-in_err-wait g c =
-    rounds_fails c.from_residual-in_err-wait.result (g.J.Jack.told c.args.ear.now.jack) (g.J.Jack.told c.round.new.ear.jack)
+    rounds_fails c.from_residual-in_err-wait.result (g.J.Jack.told c.args.ear.now.jack) (g.J.Jack.told
+    c.round.new.ear.jack)
     c.args.panel.now.player c.wait.new.panel.player
     c.args.panel.now.desk.station c.wait.new.panel.desk.station c.args.panel.now.desk.view c.wait.new.panel.desk.view
-    c.from_residual-in_err-wait.ensures.0 (inr (round_kept (g.J.Jack.told c.args.ear.now.jack) (g.J.Jack.told c.round.new.ear.jack)
+    c.from_residual-in_err-wait.ensures.0 (inr (round_kept (g.J.Jack.told c.args.ear.now.jack) (g.J.Jack.told
+    c.round.new.ear.jack)
     c.args.panel.now.player c.round.new.panel.player
     c.wait.new.panel.player c.args.panel.now.desk.station c.round.new.panel.desk.station c.wait.new.panel.desk.station
     c.args.panel.now.desk.view c.round.new.panel.desk.view c.wait.new.panel.desk.view c.in_ok-has_ended.ensures

@@ -4,10 +4,12 @@ use Rattle.cue_buttons_run.proofs.hearing.listen.Goals as goal
 
 pub returns-in_err-open_if_due : goal.returns-in_err-open_if_due
 returns-in_err-open_if_due g c =
-    listens_fails c.from_residual.result c.args.now (g.J.Jack.told c.args.ear.now.jack) (g.J.Jack.told c.open_if_due.new.ear.jack)
+    listens_fails c.from_residual.result c.args.now (g.J.Jack.told c.args.ear.now.jack) (g.J.Jack.told
+    c.open_if_due.new.ear.jack)
     c.args.panel.now.player c.open_if_due.new.panel.player c.args.panel.now.desk.station
     c.open_if_due.new.panel.desk.station c.args.panel.now.desk.view c.open_if_due.new.panel.desk.view
-    c.from_residual.ensures.0 (listens_not c.args.now (g.J.Jack.told c.args.ear.now.jack) (g.J.Jack.told c.open_if_due.new.ear.jack)
+    c.from_residual.ensures.0 (listens_not c.args.now (g.J.Jack.told c.args.ear.now.jack) (g.J.Jack.told
+    c.open_if_due.new.ear.jack)
     c.args.panel.now.player c.open_if_due.new.panel.player c.args.panel.now.desk.station
     c.open_if_due.new.panel.desk.station c.args.panel.now.desk.view c.open_if_due.new.panel.desk.view
     c.open_if_due.ensures.opens (ap (λ d. d.station) c.open_if_due.ensures.desk) (ap (λ d. d.view)
@@ -15,10 +17,12 @@ returns-in_err-open_if_due g c =
 
 pub returns-in_err-hear_out : goal.returns-in_err-hear_out
 returns-in_err-hear_out g c =
-    listens_fails c.from_residual-in_err-hear_out.result c.args.now (g.J.Jack.told c.args.ear.now.jack) (g.J.Jack.told c.hear_out.new.self.jack)
+    listens_fails c.from_residual-in_err-hear_out.result c.args.now (g.J.Jack.told c.args.ear.now.jack)
+    (g.J.Jack.told c.hear_out.new.self.jack)
     c.args.panel.now.player c.hear_out.new.panel.player c.args.panel.now.desk.station
     c.hear_out.new.panel.desk.station c.args.panel.now.desk.view c.hear_out.new.panel.desk.view
-    c.from_residual-in_err-hear_out.ensures.0 (listens false c.args.now (g.J.Jack.told c.args.ear.now.jack) (g.J.Jack.told c.open_if_due.new.ear.jack) (g.J.Jack.told c.hear_out.new.self.jack)
+    c.from_residual-in_err-hear_out.ensures.0 (listens false c.args.now (g.J.Jack.told c.args.ear.now.jack)
+    (g.J.Jack.told c.open_if_due.new.ear.jack) (g.J.Jack.told c.hear_out.new.self.jack)
     c.args.panel.now.player c.open_if_due.new.panel.player c.begin.new.self.player c.hear_out.new.panel.player
     c.args.panel.now.desk.station c.open_if_due.new.panel.desk.station c.begin.new.self.desk.station
     c.hear_out.new.panel.desk.station c.args.panel.now.desk.view c.open_if_due.new.panel.desk.view
@@ -28,7 +32,8 @@ returns-in_err-hear_out g c =
 
 pub returns : goal.returns
 returns g c =
-    listens true c.args.now (g.J.Jack.told c.args.ear.now.jack) (g.J.Jack.told c.open_if_due.new.ear.jack) (g.J.Jack.told c.hear_out.new.self.jack)
+    listens true c.args.now (g.J.Jack.told c.args.ear.now.jack) (g.J.Jack.told c.open_if_due.new.ear.jack)
+    (g.J.Jack.told c.hear_out.new.self.jack)
     c.args.panel.now.player c.open_if_due.new.panel.player c.begin.new.self.player c.hear_out.new.panel.player
     c.args.panel.now.desk.station c.open_if_due.new.panel.desk.station c.begin.new.self.desk.station
     c.hear_out.new.panel.desk.station c.args.panel.now.desk.view c.open_if_due.new.panel.desk.view

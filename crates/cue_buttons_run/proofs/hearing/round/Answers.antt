@@ -11,10 +11,12 @@ returns-in_err-has_ended g c =
 
 pub returns-in_err-look : goal.returns-in_err-look
 returns-in_err-look g c =
-    rounds_fails c.from_residual-in_err-look.result (g.J.Jack.told c.args.ear.now.jack) (g.J.Jack.told c.hear_now.new.ear.jack)
+    rounds_fails c.from_residual-in_err-look.result (g.J.Jack.told c.args.ear.now.jack) (g.J.Jack.told
+    c.hear_now.new.ear.jack)
     c.args.panel.now.player c.look.new.panel.player
     c.args.panel.now.desk.station c.look.new.panel.desk.station c.args.panel.now.desk.view c.look.new.panel.desk.view
-    c.from_residual-in_err-look.ensures.0 (inr (is_round (g.J.Jack.told c.args.ear.now.jack) (g.J.Jack.told c.hear_now.new.ear.jack)
+    c.from_residual-in_err-look.ensures.0 (inr (is_round (g.J.Jack.told c.args.ear.now.jack) (g.J.Jack.told
+    c.hear_now.new.ear.jack)
     c.args.panel.now.player c.hear_now.new.panel.player
     c.look.new.panel.player c.look.new.panel.player c.args.panel.now.desk.station c.hear_now.new.panel.desk.station
     c.look.new.panel.desk.station c.look.new.panel.desk.station c.args.panel.now.desk.view
@@ -23,10 +25,12 @@ returns-in_err-look g c =
 
 pub returns-in_err-tell : goal.returns-in_err-tell
 returns-in_err-tell g c =
-    rounds_fails c.from_residual-in_err-tell.result (g.J.Jack.told c.args.ear.now.jack) (g.J.Jack.told c.hear_now.new.ear.jack)
+    rounds_fails c.from_residual-in_err-tell.result (g.J.Jack.told c.args.ear.now.jack) (g.J.Jack.told
+    c.hear_now.new.ear.jack)
     c.args.panel.now.player c.tell.new.panel.player
     c.args.panel.now.desk.station c.tell.new.panel.desk.station c.args.panel.now.desk.view c.tell.new.panel.desk.view
-    c.from_residual-in_err-tell.ensures.0 (inr (is_round (g.J.Jack.told c.args.ear.now.jack) (g.J.Jack.told c.hear_now.new.ear.jack)
+    c.from_residual-in_err-tell.ensures.0 (inr (is_round (g.J.Jack.told c.args.ear.now.jack) (g.J.Jack.told
+    c.hear_now.new.ear.jack)
     c.args.panel.now.player c.hear_now.new.panel.player
     c.look.new.panel.player c.tell.new.panel.player c.args.panel.now.desk.station c.hear_now.new.panel.desk.station
     c.look.new.panel.desk.station c.tell.new.panel.desk.station c.args.panel.now.desk.view

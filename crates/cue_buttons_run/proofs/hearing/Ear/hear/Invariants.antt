@@ -5,5 +5,6 @@ use Rattle.cue_buttons_run.proofs.hearing.Ear.hear.Given as goal
 -- each byte so far was taken whole
 abbrev pub invariant-loop : goal.invariant-loop
 invariant-loop g l =
-    Hears true (g.J.Jack.told l.fn.self.jack) (g.J.Jack.told l.self.jack) l.fn.panel.player l.panel.player l.fn.panel.desk.station l.panel.desk.station l.fn.panel.desk.view
+    Hears true (g.J.Jack.told l.fn.self.jack) (g.J.Jack.told l.self.jack) l.fn.panel.player l.panel.player
+    l.fn.panel.desk.station l.panel.desk.station l.fn.panel.desk.view
     l.panel.desk.view

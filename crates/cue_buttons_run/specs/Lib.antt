@@ -1,3 +1,4 @@
+pub mod Memory
 pub mod Playing
 pub mod Pressing
 pub mod Telling

@@ -84,7 +84,7 @@ fn hear_came<R: Files<File = File> + Net + Clock + AllocGlobal>(
 }
 
 impl<'a, J: Jack> Ear<'a, J> {
-    /// An ear at this jack, which is called so.
+    /// An ear at this jack. What it prints names the jack by this path.
     pub fn new(jack: J, path: &'a str) -> Ear<'a, J>
         ensures { result.jack ≡ jack }
     {
@@ -353,7 +353,8 @@ pub fn hear_on<R: Files<File = File> + Net + Clock + Eprint + AllocGlobal, J: Ja
 
 /// Hears a panel's device at this path until the device ends, or a signal ends it. It sends one message for each press
 /// that a view has lit, and by itself asks for the status alone. It goes on round by round: what is pressed is what a
-/// message means that was heard, by the hand that all before has made, and by the view that is shown then.
+/// message means that was heard, by the hand that all before has made, and by the view that is shown then. The jack at
+/// a path shows nothing of what it told: `hear_on` says of every jack that what it told is what was heard.
 #[tactic(auto, using(crate::proofs::PlayingLemmas::goes_from, crate::proofs::PlayingLemmas::goes_same))]
 pub fn hear_all<R: Files<File = File> + Net + Clock + Eprint + AllocGlobal, W: Write>(
     rt: &R,

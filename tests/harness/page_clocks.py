@@ -105,7 +105,7 @@ def of_lost_file(page, evening):
     check("the button is there", page.waits_for(lambda: page.text("curtain") != ""))
     page.click("curtain")
     page.click("curtain")
-    check("a mark that was not written is said", page.shows("words", "was not written down", 5))
+    check("a mark that was not written is said", page.shows("words", "is not seen in the file", 5))
 
 
 def of_ten_seconds(page, evening):

@@ -8,4 +8,4 @@ mod sign;
 
 pub use planning::{PlanPlace, knows_plan, plan_of};
 pub use playing::play;
-pub use sign::{Sighting, Sign, after_look, raise_sign, sighting_at, sign_path};
+pub use sign::{Sign, is_raised, raise_sign, sign_path};

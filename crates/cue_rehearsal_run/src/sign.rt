@@ -5,22 +5,11 @@ ghost use Rattle.cue_rehearsal_run.specs.Signs as signs;
 
 use cue_saying::{Shown, say};
 use std::alloc::{AllocError, Global};
-use std::fs::{File, Files, OpenOptions, TryLockError};
-use std::io::{self, Eprint};
+use std::fs::{self, File, Files, OpenOptions, TryLockError};
+use std::io::{self, Eprint, ErrorKind};
 
 /// How often the lock is asked for: who looks at the sign holds it for a moment.
 const MAX_TRIES: u32 = 1_000;
-
-/// What a look at a sign found.
-#[derive(Clone, Copy, Debug, PartialEq, Eq)]
-pub enum Sighting {
-    /// No rehearsal runs.
-    Down,
-    /// One runs.
-    Up,
-    /// The sign cannot be seen.
-    Unknown,
-}
 
 /// The file of the sign of this show file.
 pub fn sign_path(alloc: Global, show: &str) -> Result<String, AllocError>
@@ -29,31 +18,20 @@ pub fn sign_path(alloc: Global, show: &str) -> Result<String, AllocError>
     format!(in alloc; "{show}.rehearsal")
 }
 
-// What the lock of the sign says.
-fn sighting_of(answer: Result<(), TryLockError>) -> Sighting
-    ensures { result ≡ signs.sighting_of answer }
+// Whether a rehearsal runs, by what the lock of its sign says.
+fn is_up(answer: Result<(), TryLockError>) -> bool
+    ensures { result ≡ signs.is_up answer }
 {
     match answer {
-        Ok(()) => Sighting::Down,
-        Err(TryLockError::WouldBlock) => Sighting::Up,
-        Err(TryLockError::Error(_)) => Sighting::Unknown,
+        Ok(()) => false,
+        Err(TryLockError::WouldBlock) => true,
+        Err(TryLockError::Error(_)) => false,
     }
 }
 
-/// Looks at a sign: whether another program holds its lock. Many may look at once.
-pub fn sighting_at(sign: File) -> Sighting {
-    sighting_of(sign.try_lock_shared())
-}
-
-/// Whether a rehearsal runs, after a look: what cannot be seen is as it was before.
-pub fn after_look(before: bool, found: Sighting) -> bool
-    ensures { result ≡ signs.after_look before found }
-{
-    match found {
-        Sighting::Down => false,
-        Sighting::Up => true,
-        Sighting::Unknown => before,
-    }
+/// Whether a rehearsal runs whose sign this is: another program holds its lock. Many may look at once.
+pub fn is_raised(sign: File) -> bool {
+    is_up(sign.try_lock_shared())
 }
 
 /// The sign of a rehearsal: it is up until this is dropped.
@@ -63,13 +41,20 @@ pub struct Sign {
     _file: Option<File>,
 }
 
-// The file, which is made if it is not there.
+// Opens the file, which is made if it is not there. One of another account may not be written: to lock it needs no more
+// than to read it.
+fn open_at<R: Files<File = File>>(rt: &R, path: &str) -> io::Result<File> {
+    match fs::metadata(rt, path) {
+        Ok(found) if !found.is_file() => Err(io::Error::from(ErrorKind::InvalidInput)),
+        Ok(_) => File::open(rt, path),
+        Err(_) => OpenOptions::new().write(true).create(true).open(rt, path),
+    }
+}
+
+// The file of the sign of this show file.
 fn open<R: Files<File = File>>(rt: &R, alloc: Global, show: &str) -> io::Result<File> {
     let path = sign_path(alloc, show)?;
-    let sign = OpenOptions::new()
-        .write(true)
-        .create(true)
-        .open(rt, path.as_str());
+    let sign = open_at(rt, path.as_str());
     drop(path);
     sign
 }

@@ -4,8 +4,8 @@
 /// The text of a `script`.
 pub(super) const CLOCKS: &str = r#"
 "use strict";
-// In seconds: what is older than that is of another evening.
-const EVENING = 43200, LATER = 500, WRITTEN = 3000;
+// In seconds: what is older than that is of another evening, and a curtain that was down so long rises on another show.
+const EVENING = 43200, BETWEEN = 5400, LATER = 500, WRITTEN = 3000;
 const two = (number) => String(number).padStart(2, "0");
 const clockWords = (seconds) =>
   Math.floor(seconds / 3600) + ":" + two(Math.floor(seconds / 60) % 60) + ":" + two(Math.floor(seconds) % 60);
@@ -23,8 +23,9 @@ function followGo() {
 
 // Which act it is or which interval, since when, and when the curtain first went up; null if it did not.
 function showTime() {
-  const marks = (manner.marks || []).filter((mark) => mark.at >= Date.now() / 1000 - EVENING);
-  const first = marks.find((mark) => mark.up);
+  const all = (manner.marks || []).filter((mark) => mark.at >= Date.now() / 1000 - EVENING);
+  const isNew = (mark, at) => mark.up && at > 0 && !all[at - 1].up && mark.at - all[at - 1].at > BETWEEN;
+  const marks = all.slice(Math.max(0, all.findLastIndex(isNew))), first = marks.find((mark) => mark.up);
   if (!first) return null;
   const later = marks.slice(marks.indexOf(first));
   const last = later.filter((mark, at) => mark.up || later[at - 1].up).pop();
@@ -55,7 +56,8 @@ function showClocks() {
 // Says that a mark is not in the file by now, if that is so.
 function missesMark(press, count) {
   if (manner.marks !== null && manner.marks.length <= count)
-    say(markName(press) + " was not written down: the window of cuedesk web says why", "refused", NOTED);
+    say(markName(press) + " is not seen in the file: look there, and at the window of cuedesk web, before you press again",
+      "refused", NOTED);
 }
 
 // A mark is written down by the desk: nothing is sent to the controller.

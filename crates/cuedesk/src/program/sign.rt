@@ -1,9 +1,8 @@
 //! The sign that a rehearsal plays the devices of a show file, as board and page look for it.
 use cue_desk_run::{Beat, open_plain};
-use cue_rehearsal_run::{Sighting, after_look, sighting_at, sign_path};
+use cue_rehearsal_run::{is_raised, sign_path};
 use std::alloc::{AllocError, Global};
 use std::fs::{File, Files};
-use std::io::ErrorKind;
 
 /// How many milliseconds lie between two looks.
 const LOOK: u64 = 500;
@@ -19,12 +18,11 @@ pub struct SignWatch {
     is_rehearsed: bool,
 }
 
-// What a look finds at this path. No file is no rehearsal.
-fn sighting<R: Files<File = File>>(rt: &R, path: &str) -> Sighting {
+// Whether a rehearsal runs whose sign is at this path. What cannot be opened says nothing.
+fn is_up<R: Files<File = File>>(rt: &R, path: &str) -> bool {
     match open_plain(rt, path) {
-        Ok(sign) => sighting_at(sign),
-        Err(why) if why.kind() == ErrorKind::NotFound => Sighting::Down,
-        Err(_) => Sighting::Unknown,
+        Ok(sign) => is_raised(sign),
+        Err(_) => false,
     }
 }
 
@@ -41,7 +39,7 @@ impl SignWatch {
     /// Looks at it, if a look is due at this moment: whether a rehearsal runs.
     pub fn look<R: Files<File = File>>(&mut self, rt: &R, now: u64) -> bool {
         if self.beats.is_due(now) {
-            self.is_rehearsed = after_look(self.is_rehearsed, sighting(rt, self.path.as_str()));
+            self.is_rehearsed = is_up(rt, self.path.as_str());
         }
         self.is_rehearsed
     }

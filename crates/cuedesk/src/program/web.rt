@@ -87,12 +87,11 @@ impl<R: Files<File = File> + Net + Clock + Eprint + AllocGlobal> Server<'_, R> {
         let Some(marks) = &mut self.marks else {
             return;
         };
-        match marks.mark(self.rt, curtain) {
-            Ok(all) => self.pages.put_marks(all),
-            Err(why) => say(
+        if let Err(why) = marks.mark(self.rt, curtain) {
+            say(
                 self.rt,
                 format_args!("the mark cannot be written down: {why}"),
-            ),
+            );
         }
     }
 
@@ -227,27 +226,24 @@ fn keep_alarms<'a, R: Files<File = File> + Net + Clock + Eprint + AllocGlobal>(
     }
 }
 
-// Shows the marks of the evening, if the command line says where they are.
+// Shows the marks of the evening, if the command line says where they are. If they cannot be read, that is said: the page
+// is there all the same, and looks again.
 fn keep_marks<'a, R: Files<File = File> + Net + Clock + Eprint + AllocGlobal>(
     web: &'a Web,
     server: &mut Server<'a, R>,
-) -> Result<(), Ending> {
+) {
     let Some(path) = web.marks.as_deref() else {
-        return Ok(());
+        return;
     };
     let mut marks = MarksFile::new(path);
-    match marks.read(server.rt) {
-        Ok(all) => {
-            server.pages.put_marks(all);
-            server.marks = Some(marks);
-            Ok(())
-        }
-        Err(why) => {
-            let path = Shown { text: path };
-            say(server.rt, format_args!("{path}: no file of marks: {why}"));
-            Err(Ending::Failed)
-        }
+    let found = marks.read(server.rt);
+    if let Err(why) = &found {
+        let path = Shown { text: path };
+        say(server.rt, format_args!("{path}: no marks are read: {why}"));
     }
+    let none = Vec::new(server.rt.alloc());
+    server.pages.put_marks(found.unwrap_or(none));
+    server.marks = Some(marks);
 }
 
 // Keeps alarms and marks where the command line says.
@@ -256,7 +252,8 @@ fn keep_all<'a, R: Files<File = File> + Net + Clock + Eprint + AllocGlobal>(
     server: &mut Server<'a, R>,
 ) -> Result<(), Ending> {
     keep_alarms(server.rt, web, &mut server.desk)?;
-    keep_marks(web, server)
+    keep_marks(web, server);
+    Ok(())
 }
 
 // Listens at this port; else why it cannot is said.

@@ -2,13 +2,43 @@
 use cue_desk::ending::Ending;
 use cue_report::marks::{Curtain, Mark, mark_line};
 use cue_saying::{print, say};
-use std::fs::{File, Files, OpenOptions};
-use std::io::{self, Eprint, Write};
+use std::fs::{self, File, Files, OpenOptions};
+use std::io::{self, Eprint, ErrorKind, Read, Seek, SeekFrom, Write};
 use std::time::Clock;
 
-// Puts a line after those of a file, which is made if it is not there.
+// Whether the last line of a file has its end, or it has no line: else what is put after it would be a part of it.
+fn ends_whole(file: &mut File) -> io::Result<bool> {
+    let len = file.metadata()?.len();
+    if len == 0 {
+        return Ok(true);
+    }
+    let mut last = [0];
+    file.seek(SeekFrom::Start(len - 1))?;
+    file.read_exact(&mut last)?;
+    Ok(last[0] == b'\n')
+}
+
+// Opens a file to put a line after its others; it is made if it is not there. A pipe that nobody reads would be waited
+// for: what is no file is not opened.
+fn open_after<R: Files<File = File>>(rt: &R, path: &str) -> io::Result<File> {
+    if let Ok(found) = fs::metadata(rt, path) {
+        if !found.is_file() {
+            return Err(io::Error::from(ErrorKind::InvalidInput));
+        }
+    }
+    OpenOptions::new()
+        .read(true)
+        .append(true)
+        .create(true)
+        .open(rt, path)
+}
+
+// Puts a line after those of a file.
 fn append<R: Files<File = File>>(rt: &R, path: &str, line: &str) -> io::Result<()> {
-    let mut file = OpenOptions::new().append(true).create(true).open(rt, path)?;
+    let mut file = open_after(rt, path)?;
+    if !ends_whole(&mut file)? {
+        file.write_all(b"\n")?;
+    }
     file.write_all(line.as_bytes())
 }
 

@@ -37,6 +37,7 @@ ELSEWHERE = (
     ("tools/handbook*", "tests/runs/handbook"),
     ("tools/package --sign KEY", "tests/runs/package"),
     ("gpgv *", "tests/runs/package"),
+    ("gpg --export *", "tests/runs/package"),
     ("grep *buildinfo*", "tests/runs/package"),
     ("sudo dpkg -i *", "tests/runs/package, in a Debian of its own"),
     ("sudo systemctl start cuectl-form@first *", "tests/runs/package, in that Debian"),

@@ -114,7 +114,8 @@ def index(bodies, titles):
         first = sorted_as(word)[0].upper()
         first = first if first.isalpha() else "0-9"
         if first != letter:
-            lines.append(("</ul>" if letter else "") + f'<h2 id="letter-{first.lower()}">{first}</h2><ul class="index">')
+            head = f'<h2 id="letter-{first.lower()}">{first}</h2><ul class="index">'
+            lines.append(("</ul>" if letter else "") + head)
             letter = first
         where = ", ".join(f'<a href="{page}#{at}">{html.escape(titles[page])}</a>' for page, at in sorted(places))
         lines.append(f"<li>{html.escape(word)}: {where}</li>")
@@ -129,7 +130,7 @@ def contents(titles, here):
         for page in pages:
             name = site_name(page)
             text = html.escape(titles[name])
-            lines.append(f"<li><strong>{text}</strong></li>" if name == here else f'<li><a href="{name}">{text}</a></li>')
+            lines.append("<li>" + (f"<strong>{text}</strong>" if name == here else f'<a href="{name}">{text}</a>') + "</li>")
             if page == "docs/OPERATING.md":
                 lines.append(f'<li><a href="{EVENING}">The first evening, to print</a></li>')
         lines.append("</ul>")

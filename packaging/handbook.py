@@ -130,7 +130,8 @@ def contents(titles, here):
         for page in pages:
             name = site_name(page)
             text = html.escape(titles[name])
-            lines.append("<li>" + (f"<strong>{text}</strong>" if name == here else f'<a href="{name}">{text}</a>') + "</li>")
+            shown = f"<strong>{text}</strong>" if name == here else f'<a href="{name}">{text}</a>'
+            lines.append(f"<li>{shown}</li>")
             if page == "docs/OPERATING.md":
                 lines.append(f'<li><a href="{EVENING}">The first evening, to print</a></li>')
         lines.append("</ul>")

@@ -1,5 +1,6 @@
 pub mod Alarming
 pub mod Asking
+pub mod Devices
 pub mod Failing
 pub mod Hearing
 pub mod Laws

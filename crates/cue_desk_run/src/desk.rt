@@ -10,10 +10,13 @@ ghost use Rattle.cue_station.specs.Reading.{state_read};
 ghost use Rattle.cue_station.specs.declared.heard.Heard.TheVariants as heard;
 
 mod alarming;
+mod copying;
+mod placing;
 
 use crate::alarms::{KeptAlarms, are_same};
 use crate::asks::Asks;
 use crate::clocks::{Beat, SteadyClock, wall_time};
+use crate::devices::{DeviceWatch, KeptDevices};
 use crate::failing::Tries;
 use crate::letters::letter_of;
 use crate::looks::Looks;
@@ -61,6 +64,10 @@ pub struct Desk<'a, R> {
     events: Events,
     asks: Asks<'a>,
     store: Store,
+    // Where the devices stand, by the copies that were heard.
+    devices: DeviceWatch,
+    // Where that is kept, if it is.
+    places: Option<KeptDevices<'a, R>>,
     relay: Option<&'a str>,
     alarms: Option<KeptAlarms<'a, R>>,
     // Whether other failures are told of than those that were kept last.
@@ -100,6 +107,7 @@ impl<'a, R: Files<File = File> + Net + Clock + AllocGlobal> Desk<'a, R> {
         let poll = Poll::new(rt)?;
         let events = Events::with_capacity(rt.alloc(), EVENTS)?;
         let dir = String::from_str(rt.alloc(), sources.dir)?;
+        let devices = DeviceWatch::new(rt.alloc())?;
         let mut station = Station::new(rt.alloc());
         let Step { view, send } = match first_step(rt, &mut station) {
             Ok(step) => step,
@@ -122,6 +130,8 @@ impl<'a, R: Files<File = File> + Net + Clock + AllocGlobal> Desk<'a, R> {
             events,
             asks: Asks::new(rt.alloc(), way),
             store: Store::new(dir),
+            devices,
+            places: None,
             relay: sources.relay,
             alarms: None,
             has_changed: false,
@@ -173,6 +183,7 @@ impl<'a, R: Files<File = File> + Net + Clock + AllocGlobal> Desk<'a, R> {
         ensures view { self.new.view ≡ self.old.view }
         ensures left { OnOk result (LetterLeaves send self.old.asks.outlet self.new.asks.outlet) }
         ensures lost { OnErr result (self.new.asks.outlet ≡ self.old.asks.outlet) }
+        ensures devices { self.new.devices ≡ self.old.devices }
     {
         self.asks.make_room(send.order);
         let letter = letter_of(self.rt.alloc(), send, self.asks.together())?;
@@ -185,6 +196,7 @@ impl<'a, R: Files<File = File> + Net + Clock + AllocGlobal> Desk<'a, R> {
         ensures station { self.new.station ≡ self.old.station }
         ensures view { self.new.view ≡ self.old.view }
         ensures sends { Sends send self.old.asks.outlet self.new.asks.outlet }
+        ensures devices { self.new.devices ≡ self.old.devices }
     {
         if let Some(send) = send {
             let posted = self.post(send);
@@ -206,6 +218,7 @@ impl<'a, R: Files<File = File> + Net + Clock + AllocGlobal> Desk<'a, R> {
         ensures station { self.new.station ≡ self.old.station }
         ensures view { self.new.view ≡ view }
         ensures nothing { self.new.asks.outlet ≡ self.old.asks.outlet }
+        ensures devices { self.new.devices ≡ self.old.devices }
     {
         let old = mem::replace(&mut self.view, view);
         self.has_changed = self.has_changed || !are_same(&old.failed, &self.view.failed);
@@ -216,6 +229,7 @@ impl<'a, R: Files<File = File> + Net + Clock + AllocGlobal> Desk<'a, R> {
         ensures heard { HearsIf result heard self.old.station self.new.station self.old.view self.new.view }
         ensures sends { SendsIf result heard self.old.station self.new.station self.old.view self.new.view
             self.old.asks.outlet self.new.asks.outlet }
+        ensures devices { self.new.devices ≡ self.old.devices }
     {
         let wall = wall_time(self.rt);
         let input = Input { at, wall, heard };
@@ -237,6 +251,7 @@ impl<'a, R: Files<File = File> + Net + Clock + AllocGlobal> Desk<'a, R> {
         ensures station { OnErr result (self.new.station ≡ self.old.station) }
         ensures view { OnErr result (self.new.view ≡ self.old.view) }
         ensures nothing { OnErr result (self.new.asks.outlet ≡ self.old.asks.outlet) }
+        ensures devices { self.new.devices ≡ self.old.devices }
     {
         match self.now() {
             Ok(at) => Ok(self.hear_at(at, heard)),
@@ -262,6 +277,7 @@ impl<'a, R: Files<File = File> + Net + Clock + AllocGlobal> Desk<'a, R> {
         requires { IsUnpressed heard }
         ensures looks { OnlyLooks self.old.station self.new.station }
         ensures sends { OnlySends self.old.station self.new.station self.old.asks.outlet self.new.asks.outlet }
+        ensures devices { self.new.devices ≡ self.old.devices }
     {
         self.hear(heard)
     }
@@ -279,37 +295,6 @@ impl<'a, R: Files<File = File> + Net + Clock + AllocGlobal> Desk<'a, R> {
             let _ = self.look(heard)?;
         }
         Ok(())
-    }
-
-    // Hears what the files of the store say. A copy that was not heard is read again.
-    fn hear_store(&mut self, heard: Heard) -> io::Result<()>
-        requires { IsUnpressed heard }
-        ensures looks { OnlyLooks self.old.station self.new.station }
-        ensures sends { OnlySends self.old.station self.new.station self.old.asks.outlet self.new.asks.outlet }
-    {
-        if !self.look(heard)? {
-            self.store.forget();
-        }
-        Ok(())
-    }
-
-    // Looks at the files of the store. What came while they were read is heard before the copy: else the next question
-    // for the status could take the place of one whose answer is there.
-    #[tactic(auto, using(crate::proofs::WorkLemmas::of_store, crate::proofs::WorkLemmas::looks_none, crate::proofs::WorkLemmas::looks_then, crate::proofs::LeaveLemmas::sends_none, crate::proofs::LeaveLemmas::sends_then))]
-    fn look_at_store(&mut self) -> io::Result<()>
-        ensures looks { OnlyLooks self.old.station self.new.station }
-        ensures sends { OnlySends self.old.station self.new.station self.old.asks.outlet self.new.asks.outlet }
-    {
-        let begun = self.now()?;
-        if !self.looks.is_due(&self.view, begun) {
-            return Ok(());
-        }
-        let heard = self.store.look(self.rt, begun);
-        if let Err(why) = self.hear_answers() {
-            drop(heard);
-            return Err(why);
-        }
-        self.hear_store(heard)
     }
 
     // Looks at what the relay has written.

@@ -43,6 +43,7 @@ mod ask;
 mod asks;
 mod clocks;
 mod desk;
+mod devices;
 mod failing;
 pub mod laws;
 mod letters;

@@ -1,37 +1,22 @@
 -- What a page lets the desk hear.
-use Rattle.std.specs.Prelude.{◌≡◌, ◌⊎◌, ℕ, Bool, true, false, List, [], ◌∷◌, map, filter, Option, None, Some}
+use Rattle.std.specs.Prelude.{◌≡◌, ◌⊎◌, ℕ, ◌≤◌, Bool, true, false, List, [], ◌∷◌, map, filter, Option, None, Some}
 use Rattle.cue_desk_run.specs.Working.{HearsIf, OnlyLooks, Stays}
 use Rattle.cue_request.specs.declared.identity.PageIdentity.{PageIdentity}
 use Rattle.cue_request.specs.declared.lock.Guard.{Guard}
 use Rattle.cue_request.specs.declared.request.Refusal.{Refusal}
-use Rattle.cue_request.specs.Locks.{after_press, said_at, verdict_on}
-use Rattle.cue_request.specs.Presses.{body_of}
-use Rattle.cue_request.specs.Requests.{IsCommand}
+use Rattle.cue_request.specs.Locks.{after_press, verdict_on}
 use Rattle.cue_station.specs.declared.heard.Heard.TheVariants as heard
 use Rattle.cue_station.specs.declared.station.Station.{Station}
 use Rattle.cue_view.specs.declared.view.View.{View}
-use Rattle.cue_web.specs.Marking.{IsMarkIn}
-use Rattle.cue_web.specs.declared.connection.Asking.{Asking}
-use Rattle.cue_web.specs.declared.connection.Asking.TheVariants as asking
-use Rattle.cue_web.specs.declared.connection.Connection.{Connection}
-use Rattle.cue_web.specs.declared.connection.Pressed.{Pressed}
-use Rattle.cue_web.specs.declared.connection.Stage.{Stage}
-use Rattle.cue_web.specs.declared.connection.Stage.TheVariants as stage
-
--- What came from a connection is a command of our own page, whose body names this view and this button, and which says
--- this of the word of the lock.
-pub record IsPressIn (identity : PageIdentity) (bytes : List ℕ) (p : Pressed) : Type 0 where
-  pub body : List ℕ
-  pub word : Option (List ℕ)
-  pub command : IsCommand identity bytes body word
-  pub names : body ≡ body_of p.view p.button
-  pub says : p.said ≡ said_at identity.purpose word
-
--- if it asks for a press or a mark, what came is one
-abbrev pub AsksIn : PageIdentity → List ℕ → Asking → Type 0
-AsksIn identity bytes (asking.Press (Some p)) = IsPressIn identity bytes p
-AsksIn identity bytes (asking.Mark c) = IsMarkIn identity bytes c
-AsksIn identity bytes _ = Unit {0}
+use Rattle.cue_connection.specs.Asking.{AsksIn}
+use Rattle.cue_connection.specs.Stages.{AsksOnce, is_asking, is_here_at}
+use Rattle.cue_connection.specs.declared.asking.Asking.{Asking}
+use Rattle.cue_connection.specs.declared.asking.Asking.TheVariants as asking
+use Rattle.cue_connection.specs.declared.asking.Pressed.{Pressed}
+use Rattle.cue_connection.specs.declared.connection.Connection.{Connection}
+use Rattle.cue_web.specs.declared.wire.Came.{Came}
+use Rattle.cue_web.specs.declared.wire.Came.TheVariants as came
+use Rattle.cue_web.specs.declared.wire.Wire.{Wire}
 
 -- The desk heard of this press once at most, as one of the view that it names.
 pub record HearsOnce (p : Pressed) (old new : Station) (v v_then : View) : Type 0 where
@@ -57,35 +42,27 @@ guard_after g now _ = g
 
 -- ---- one connection
 
--- its request is awaited
-abbrev pub is_asking : Stage → Bool
-is_asking stage.Asking = true
-is_asking _ = false
-
 -- it is still there
-abbrev pub is_here_at : Stage → Bool
-is_here_at stage.Gone = false
-is_here_at _ = true
+abbrev pub is_here : Wire → Bool
+is_here w = is_here_at w.connection.stage
 
-abbrev pub is_here : Connection → Bool
-is_here c = is_here_at c.stage
+-- the bytes of a reading stand in its room
+abbrev pub IsWithin : Came → ℕ → Type 0
+IsWithin (came.Bytes n) size = n ≤ size
+IsWithin _ size = Unit {0}
 
--- One that has just come: its request is awaited, and nothing of it was heard.
-pub record IsFresh (c : Connection) : Type 0 where
-  pub asks : is_asking c.stage ≡ true
-  pub unheard : c.input.items ≡ []
-
--- One that asks no more does not ask again.
-pub record AsksOnce (old new : Stage) : Type 0 where
-  pub once : is_asking new ≡ true → is_asking old ≡ true
+-- one that asks no more keeps nothing of what comes, and does not ask again
+abbrev pub IsDropped : (c c_then : Connection) → Type 0
+IsDropped c c_then =
+    is_asking c.stage ≡ false → (is_asking c_then.stage ≡ false) × (c_then.input ≡ c.input)
 
 -- It was answered what it asked: a request that came whole, and it asks nothing more. The lock counts what it says.
-pub record ServesAsked (identity : PageIdentity) (g g_then : Guard) (now : ℕ) (c c_then : Connection)
+pub record ServesAsked (identity : PageIdentity) (g g_then : Guard) (now : ℕ) (c c_then : Wire)
     (old new : Station) (v v_then : View) : Type 0 where
   pub asks : Asking
-  pub came : AsksIn identity c_then.input.items asks
-  pub first : is_asking c.stage ≡ true
-  pub over : is_asking c_then.stage ≡ false
+  pub came : AsksIn identity c_then.connection.input.items asks
+  pub first : is_asking c.connection.stage ≡ true
+  pub over : is_asking c_then.connection.stage ≡ false
   pub answers : Answers g now asks old new v v_then
   pub counted : g_then ≡ guard_after g now asks
 
@@ -95,7 +72,7 @@ pub record ServesNothing (g g_then : Guard) (old new : Station) (v v_then : View
   pub uncounted : g_then ≡ g
 
 -- a connection is served: it asked, or nothing came of it
-abbrev pub Serves : PageIdentity → (g g_then : Guard) → ℕ → (c c_then : Connection) → (old new : Station)
+abbrev pub Serves : PageIdentity → (g g_then : Guard) → ℕ → (c c_then : Wire) → (old new : Station)
     → (v v_then : View) → Type 0
 Serves identity g g_then now c c_then old new v v_then =
     ServesAsked identity g g_then now c c_then old new v v_then ⊎ ServesNothing g g_then old new v v_then
@@ -108,8 +85,8 @@ pub record Serving : Type 0 where
   pub at : ℕ
   pub guard : Guard
   pub guard_then : Guard
-  pub before : Connection
-  pub after : Connection
+  pub before : Wire
+  pub after : Wire
   pub old : Station
   pub new : Station
   pub view : View
@@ -118,7 +95,7 @@ pub record Serving : Type 0 where
 -- What the desk heard of it is what its own bytes ask and its lock lets through, and it does not ask again.
 pub record IsServed (identity : PageIdentity) (s : Serving) : Type 0 where
   pub serves : Serves identity s.guard s.guard_then s.at s.before s.after s.old s.new s.view s.view_then
-  pub once : AsksOnce s.before.stage s.after.stage
+  pub once : AsksOnce s.before.connection.stage s.after.connection.stage
 
 -- the desk heard nothing but looks, and these connections, which were served one after the other
 abbrev pub OnlyServed : PageIdentity → List Serving → (old new : Station) → Type 0
@@ -146,7 +123,7 @@ pub record OnlyAsked (page page_then : PageIdentity) (g g_then : Guard) (old new
 
 -- Each of these connections was served at this moment, once and in order, and they were left like this. Nothing else
 -- was heard, and the lock was handed on from each to the next.
-pub record ServesEach (page page_then : PageIdentity) (g g_then : Guard) (now : ℕ) (here left : List Connection)
+pub record ServesEach (page page_then : PageIdentity) (g g_then : Guard) (now : ℕ) (here left : List Wire)
     (old new : Station) : Type 0 where
   pub servings : List Serving
   pub moment : AreAt now servings
@@ -157,8 +134,8 @@ pub record ServesEach (page page_then : PageIdentity) (g g_then : Guard) (now : 
   pub identity : page_then ≡ page
 
 -- A round: each connection that is here is served, and those that are still there stay as they were left.
-pub record HasRound (page page_then : PageIdentity) (g g_then : Guard) (now : ℕ) (here here_then : List Connection)
+pub record HasRound (page page_then : PageIdentity) (g g_then : Guard) (now : ℕ) (here here_then : List Wire)
     (old new : Station) : Type 0 where
-  pub left : List Connection
+  pub left : List Wire
   pub served : ServesEach page page_then g g_then now here left old new
   pub stay : here_then ≡ filter is_here left

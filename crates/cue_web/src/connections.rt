@@ -2,10 +2,11 @@
 //! the one that has waited longest gives way.
 ghost use Rattle.std.specs.Prelude.{◌≡◌, ◌+◌, ◌≤◌, [], filter, length, vec_capacity, IfOk};
 ghost use Rattle.cue_web.specs.Admitting.{Admits, Come, newest};
-ghost use Rattle.cue_web.specs.Serving.{AsksOnce, HasRound, OnlyAsked, Serves, ServesEach, is_here};
+ghost use Rattle.cue_connection.specs.Stages.{AsksOnce};
+ghost use Rattle.cue_web.specs.Serving.{HasRound, OnlyAsked, Serves, ServesEach, is_here};
 
-use crate::connection::Connection;
 use crate::pages::Pages;
+use crate::wire::Wire;
 use cue_desk_run::Desk;
 use mio::net::{TcpListener, TcpStream};
 use mio::{Interest, Registry, Token};
@@ -31,7 +32,7 @@ const CONNECTION: Token = Token(1);
 pub struct Connections {
     listener: TcpListener,
     // Those that are here, in the order in which they came.
-    here: Vec<Connection>,
+    here: Vec<Wire>,
 }
 
 // The next connection that waits; none if there is none.
@@ -47,14 +48,14 @@ fn next_stream(listener: &TcpListener, registry: &Registry) -> Option<TcpStream>
 #[tactic(auto, using(crate::proofs::ServeLemmas::served, crate::proofs::ServeLemmas::unasked, crate::proofs::ServeLemmas::once_over))]
 fn serve_one<R: Files<File = File> + Net + Clock + AllocGlobal>(
     alloc: Global,
-    connection: &mut Connection,
+    connection: &mut Wire,
     desk: &mut Desk<'_, R>,
     pages: &mut Pages<'_>,
     now: u64,
 )
     ensures serves { Serves pages.old.identity pages.old.guard pages.new.guard now connection.old connection.new
         desk.old.station desk.new.station desk.old.view desk.new.view }
-    ensures once { AsksOnce connection.old.stage connection.new.stage }
+    ensures once { AsksOnce connection.old.connection.stage connection.new.connection.stage }
     ensures identity { pages.new.identity ≡ pages.old.identity }
 {
     let Some(asking) = connection.hear(pages.identity(), now) else {
@@ -70,14 +71,14 @@ fn serve_one<R: Files<File = File> + Net + Clock + AllocGlobal>(
 #[tactic(auto, using(crate::proofs::ServeLemmas::serves_on, crate::proofs::ServeLemmas::once_then))]
 fn serve_next<R: Files<File = File> + Net + Clock + AllocGlobal>(
     alloc: Global,
-    connection: &mut Connection,
+    connection: &mut Wire,
     desk: &mut Desk<'_, R>,
     pages: &mut Pages<'_>,
     now: u64,
 )
     ensures serves { Serves pages.old.identity pages.old.guard pages.new.guard now connection.old connection.new
         desk.old.station desk.new.station desk.old.view desk.new.view }
-    ensures once { AsksOnce connection.old.stage connection.new.stage }
+    ensures once { AsksOnce connection.old.connection.stage connection.new.connection.stage }
     ensures identity { pages.new.identity ≡ pages.old.identity }
 {
     serve_one(alloc, connection, desk, pages, now);
@@ -87,7 +88,7 @@ fn serve_next<R: Files<File = File> + Net + Clock + AllocGlobal>(
 // Serves each of these connections, one after the other.
 fn serve_each<R: Files<File = File> + Net + Clock + AllocGlobal>(
     alloc: Global,
-    here: &mut Vec<Connection>,
+    here: &mut Vec<Wire>,
     desk: &mut Desk<'_, R>,
     pages: &mut Pages<'_>,
     now: u64,
@@ -102,7 +103,7 @@ fn serve_each<R: Files<File = File> + Net + Clock + AllocGlobal>(
 }
 
 // Sends away those that have waited longest, if more are here than may be: they stand in the order in which they came.
-fn make_room(here: &mut Vec<Connection>)
+fn make_room(here: &mut Vec<Wire>)
     ensures newest { here.new.items ≡ newest here.old.items }
     ensures room { vec_capacity here.new ≡ vec_capacity here.old }
 {
@@ -113,7 +114,7 @@ fn make_room(here: &mut Vec<Connection>)
 }
 
 // Drops those that are gone.
-fn drop_gone(here: &mut Vec<Connection>)
+fn drop_gone(here: &mut Vec<Wire>)
     ensures stay { here.new.items ≡ filter is_here here.old.items }
     ensures room { vec_capacity here.new ≡ vec_capacity here.old }
 {
@@ -150,7 +151,7 @@ impl Connections {
             let Some(stream) = next_stream(&self.listener, registry) else {
                 return false;
             };
-            let _ = self.here.push(Connection::new(alloc, stream, now));
+            let _ = self.here.push(Wire::new(alloc, stream, now));
         }
         true
     }

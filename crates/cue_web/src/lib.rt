@@ -21,11 +21,10 @@
 //! Only tested: how long a connection has, and what it reads and sends.
 #![tactic(auto)]
 
-mod connection;
 mod connections;
-mod marking;
 mod pages;
+mod wire;
 
 pub use connections::Connections;
-pub use marking::CurtainMove;
+pub use cue_connection::CurtainMove;
 pub use pages::{Beside, Pages};

@@ -3,18 +3,18 @@ ghost use Rattle.std.specs.Prelude.{◌≡◌, is_some, IfOk, None, Some};
 ghost use Rattle.cue_request.specs.Locks.{after_press, untouched, verdict_on};
 ghost use Rattle.cue_web.specs.Marking.{waiting_after};
 ghost use Rattle.cue_web.specs.Serving.{Answers, HearsOnce, HearsUnless, guard_after};
-ghost use Rattle.cue_web.specs.declared.connection.Asking.TheVariants as asking;
+ghost use Rattle.cue_connection.specs.declared.asking.Asking.TheVariants as asking;
 
-use crate::connection::{Answer, Asking, Pressed};
-use crate::marking::CurtainMove;
 use cue_board::Names;
+use cue_connection::{
+    Answer, Asking, CurtainMove, Pressed, json_answer, refused_answer, trouble_answer,
+};
 use cue_desk_run::Desk;
 use cue_page::board::{CurtainMark, Manner, view_text};
 use cue_page::page::{page_text, policy};
-use cue_request::answering::{Kind, NOTHING, Outcome, answer, refusal_words};
+use cue_request::answering::{Kind, NOTHING, Outcome, answer};
 use cue_request::identity::{PageIdentity, Purpose};
 use cue_request::lock::Guard;
-use cue_request::replying::trouble_text;
 use cue_request::request::Refusal;
 use cue_show_file::{Group, ShowFile, of_show, written};
 use std::alloc::{AllocError, Global};
@@ -67,22 +67,6 @@ pub struct Pages<'a> {
     // The newest view as text, and its number; none is drawn yet.
     drawn: Option<u64>,
     text: String,
-}
-
-// An answer of JSON.
-fn json_answer(alloc: Global, outcome: Outcome, text: &str) -> Result<String, AllocError> {
-    answer(alloc, outcome, Kind::Json, NOTHING, text)
-}
-
-// That there is no answer, and why.
-fn trouble_answer(alloc: Global, outcome: Outcome, words: &str) -> Result<String, AllocError> {
-    let text = trouble_text(alloc, words)?;
-    json_answer(alloc, outcome, text.as_str())
-}
-
-// That the request is refused, and why.
-fn refused_answer(alloc: Global, refusal: Refusal) -> Result<String, AllocError> {
-    trouble_answer(alloc, Outcome::Refused(refusal), refusal_words(refusal))
 }
 
 // What the numbers of a view are called, and which cues stand by together.

@@ -8,6 +8,6 @@ use Rattle.cue_desk_run.proofs.desk.Desk.new.Goals as goal
 pub returns-clause-begins : goal.returns-clause-begins
 returns-clause-begins g c =
     subst (λ (s : Station). Begins s c.send.new.self.asks.outlet) (sym c.send.ensures.station)
-    (begins c.new-station.result c.first_step.new.station c.in-Ok.step c.new-3.result.outlet
-    c.send.new.self.asks.outlet c.new-station.ensures.after c.in-Ok.ensures.first c.new-3.ensures.unused
+    (begins c.new-station.result c.first_step.new.station c.in-Ok.step c.new-4.result.outlet
+    c.send.new.self.asks.outlet c.new-station.ensures.after c.in-Ok.ensures.first c.new-4.ensures.unused
     c.send.ensures.sends)

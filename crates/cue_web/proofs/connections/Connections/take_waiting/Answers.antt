@@ -13,7 +13,8 @@ loop-preserved c =
     omega arith in
     come_next (vec_capacity c.args.self.now.here) (vec_capacity c.loop.self.here) (vec_capacity c.push.new.self)
     c.args.self.now.here.items c.loop.self.here.items c.push.new.self.items c.loop.counter c.new.result
-    (is_ok c.push.result) c.push.ensures.items full c.push.ensures.capacity (omega arith) c.loop.invariant c.new.ensures
+    (is_ok c.push.result) c.push.ensures.items full c.push.ensures.capacity (omega arith) c.loop.invariant
+    c.new.ensures.fresh
 
 pub returns : goal.returns
 returns c = record {

@@ -1,0 +1,4 @@
+pub mod AskingLemmas
+mod LifeLemmas
+mod PieceLemmas
+mod ScanningLemmas

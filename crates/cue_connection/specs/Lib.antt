@@ -1,0 +1,7 @@
+pub mod Answers
+pub mod Asking
+pub mod Connecting
+pub mod Laws
+pub mod Marking
+pub mod Scanning
+pub mod Stages

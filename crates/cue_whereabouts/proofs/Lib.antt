@@ -1,0 +1,2 @@
+mod BeginningLemmas
+mod TellingLemmas

@@ -1,0 +1,11 @@
+use Rattle.std.proofs.Common.{arith}
+use Rattle.std.proofs.lemmas.List.Edits.{map_over_more}
+use Rattle.cue_whereabouts.specs.Text.{with_part}
+use Rattle.cue_whereabouts.proofs.text.take_each.Goals as goal
+
+pub loop-known-preserved : goal.loop-known-preserved
+loop-known-preserved c =
+    rw (c.take_part.ensures, ← c.known-item.is)
+    (map_over_more (with_part c.args.device c.args.last.now) c.deref_mut-known-items.result.now
+    c.loop-known.known-items c.loop-known.known-index c.known-item.result
+    (omega arith) c.loop-known.invariant c.known-item.is)

@@ -2,7 +2,8 @@
 //!
 //! All that a view says is one definition, `view_data` (`specs/Page.antt`), made of those of its parts. The page is one
 //! text of HTML with its styles and its scripts: most draw a view, each a part of it; the last one asks for the newest
-//! view and reports which button was pressed in which view.
+//! view and reports which button was pressed in which view. They are written in page/ at the top, and `tools/page`
+//! makes the texts of `page::sources` of them.
 //!
 //! Why it is so:
 //! - The page decides nothing: what is lit, and for which cue and attempt, stands in the view. An older view never

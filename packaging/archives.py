@@ -16,7 +16,8 @@ SCRIPTS = ("postinst", "prerm", "postrm")
 def needed(tree):
     """What of glibc the programs call: its newest version; and whether they need libgcc."""
     programs = [path for path in tree.files() if path.parent.name == "bin" and path.read_bytes()[:4] == b"\x7fELF"]
-    said = "".join(subprocess.run(["objdump", "-p", path], stdout=subprocess.PIPE, check=True, text=True).stdout
+    objdump = tree.architecture.tool("objdump")
+    said = "".join(subprocess.run([objdump, "-p", path], stdout=subprocess.PIPE, check=True, text=True).stdout
                    for path in programs)
     versions = [tuple(map(int, found.split("."))) for found in re.findall(r" GLIBC_([\d.]+)$", said, re.M)]
     found = [f"libc6 (>= {'.'.join(map(str, max(versions)))})"] if versions else []
@@ -26,7 +27,7 @@ def needed(tree):
 def control(tree, name, version, maintainer, fields, depends):
     """The file that says what the package is."""
     size = sum(-(-path.lstat().st_size // 1024) for path in tree.files())
-    lines = {"Package": name, "Version": version, "Architecture": "amd64", "Maintainer": maintainer,
+    lines = {"Package": name, "Version": version, "Architecture": tree.architecture.debian, "Maintainer": maintainer,
              "Installed-Size": str(size), "Depends": ", ".join(depends), **fields}
     return "".join(f"{key}: {value}\n" for key, value in lines.items() if value)
 

@@ -30,7 +30,7 @@ class Command:
 
 def said(program, *words):
     """What it prints: the same in every window and on every machine."""
-    done = subprocess.run([str(program), *words], stdout=subprocess.PIPE, stdin=subprocess.DEVNULL, check=True,
+    done = subprocess.run([*map(str, program), *words], stdout=subprocess.PIPE, stdin=subprocess.DEVNULL, check=True,
                           env={"LC_ALL": "C", "COLUMNS": "100", "PATH": "/usr/bin:/bin"})
     return done.stdout.decode()
 
@@ -60,7 +60,7 @@ def option(names, says):
 
 
 def command(program, name, *words):
-    """The command of these words, with all that stand below it."""
+    """The command of these words, with all that stand below it; the program as the words that start it."""
     found = parts(said(program, *words, "--help"))
     says, *ends = found[""]
     made = Command([name, *words], says, " ".join(found["Usage"]), rows(found.get("Arguments", [])),

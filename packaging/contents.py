@@ -13,18 +13,16 @@ import manuals
 
 ROOT = Path(__file__).resolve().parent.parent
 HERE = ROOT / "packaging"
-ARCHITECTURES = {"aarch64": "aarch64-unknown-linux-gnu", "x86_64": "x86_64-unknown-linux-gnu"}
-LIBRARIES = "usr/lib/x86_64-linux-gnu"
 UNITS = "usr/lib/systemd/system"
 MAKER = "usr/share/doc/libcue-device-dev"
 TESTER = "Plays the controller of cuectl against a device, and says which of its duties it breaks"
 
 
 class Tree:
-    """The files of a package, in a folder that stands for /."""
+    """The files of a package for a processor, in a folder that stands for /."""
 
-    def __init__(self, folder):
-        self.folder = folder
+    def __init__(self, folder, architecture):
+        self.folder, self.architecture = folder, architecture
 
     def place(self, to):
         made = self.folder / to
@@ -44,9 +42,10 @@ class Tree:
         return made
 
     def program(self, source, to):
-        """A program without what only a debugger reads, and without the name of its build."""
+        """A program without what only a debugger reads. The name of its build stays: with that section, strip takes
+        away the segment that makes relocations read-only, too."""
         made = self.copy(source, to, 0o755)
-        subprocess.run(["strip", "--strip-unneeded", "-R", ".comment", "-R", ".note.gnu.build-id", made], check=True)
+        subprocess.run([self.architecture.tool("strip"), "--strip-unneeded", "-R", ".comment", made], check=True)
 
     def files(self):
         """All files and links, in the order of their paths."""
@@ -108,7 +107,8 @@ def cuectl(tree, programs, version, date):
     """Both programs, their units, and what a stage manager reads."""
     for name in ("cuectl", "cuedesk"):
         tree.program(programs / name, f"usr/bin/{name}")
-    asked = {name: command_help.command(programs / name, name) for name in ("cuectl", "cuedesk")}
+    around = tree.architecture.around
+    asked = {name: command_help.command([*around, programs / name], name) for name in ("cuectl", "cuedesk")}
     for name, text in manuals.of_programs(asked["cuectl"], asked["cuedesk"], version, date).items():
         tree.text(f"usr/share/man/man1/{name}", text)
     for name, program in asked.items():
@@ -126,14 +126,14 @@ def cuectl(tree, programs, version, date):
 def device(tree, libraries, version, date):
     """What the maker of a device needs: the header, the libraries that there are, the C file, and the trials."""
     tree.copy(ROOT / "include" / "cue_device.h", "usr/include/")
-    if "x86_64" in libraries:
-        tree.copy(libraries["x86_64"], f"{LIBRARIES}/libcue_device_c.a")
-    if "aarch64" in libraries:
-        tree.copy(libraries["aarch64"], "usr/lib/cue-device/aarch64/libcue_device_c.a")
+    own = tree.architecture
+    for each, library in libraries.items():
+        place = own.libraries if each is own else f"usr/lib/cue-device/{each.name}"
+        tree.copy(library, f"{place}/libcue_device_c.a")
     prefix, libdir = "${pcfiledir}/../../..", "${pcfiledir}/.."
     # without a library the C file itself stands in its place: one line builds a device with either
-    libs = "-L${libdir} -lcue_device_c" if "x86_64" in libraries else "${prefix}/share/cue-device/cue_device.c"
-    tree.text(f"{LIBRARIES}/pkgconfig/cue_device.pc", fill(
+    libs = "-L${libdir} -lcue_device_c" if own in libraries else "${prefix}/share/cue-device/cue_device.c"
+    tree.text(f"{own.libraries}/pkgconfig/cue_device.pc", fill(
         (HERE / "cue_device.pc").read_text(), prefix=prefix, libdir=libdir, libs=libs,
         version=re.split("[+~]", version)[0]))
     for name in ("device/cue_device.c", "docs/vectors.txt", "docs/device-table.csv"):

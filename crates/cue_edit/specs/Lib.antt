@@ -1,0 +1,5 @@
+pub mod Editing
+pub mod Laws
+pub mod Outcome
+pub mod Rewriting
+pub mod Words

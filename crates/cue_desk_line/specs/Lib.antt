@@ -1,3 +1,4 @@
+pub mod Edits
 pub mod Ends
 pub mod Orders
 pub mod Pages

@@ -4,6 +4,7 @@
 mod reading;
 
 pub use reading::buttons::Buttons;
+pub use reading::editing::Editing;
 pub use reading::line;
 pub use reading::pressing::Pressed;
 pub use reading::rehearsing::{Flags, Rehearsal, with_flags};

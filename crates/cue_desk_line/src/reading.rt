@@ -8,6 +8,7 @@ ghost use Rattle.cue_desk_line.specs.Orders.{device_by, device_word};
 mod arguments;
 pub mod buttons;
 mod commands;
+pub mod editing;
 pub mod pressing;
 pub mod rehearsing;
 pub mod reporting;
@@ -23,10 +24,11 @@ use cue_desk::orders::{CommandWord, DeskCommand, word_in};
 use cue_loading::Manner;
 use cue_operator::CueVerb;
 use cue_show::{CueNo, DeviceNo};
+use editing::edit_in;
 use pressing::pressed_in;
 use rehearsing::rehearsal_in;
 use reporting::{asker_in, asker_said, mark_in, report_in};
-use sheet::{new_in, sheet_in};
+use sheet::{check_in, export_in, new_in, sheet_in};
 use std::alloc::Global;
 use web::web_in;
 use words::{Environment, Line, Watched};
@@ -170,13 +172,6 @@ fn remove_in(alloc: Global, found: &ArgMatches<'_>) -> Result<Line, LineFault>
     }
 }
 
-// The command `check`, with what stands after it.
-fn check_in(alloc: Global, found: &ArgMatches<'_>) -> Result<Line, LineFault> {
-    Ok(Line::Check {
-        file: text_in(alloc, found, "FILE")?,
-    })
-}
-
 // What becomes of what is in the store already.
 fn manner_of(found: &ArgMatches<'_>) -> Manner {
     if found.get_flag("exact") {
@@ -211,13 +206,6 @@ fn load_in(alloc: Global, found: &ArgMatches<'_>) -> Result<Line, LineFault> {
     })
 }
 
-// The command `export`, with what stands after it.
-fn export_in(alloc: Global, found: &ArgMatches<'_>) -> Result<Line, LineFault> {
-    Ok(Line::Export {
-        dir: text_in(alloc, found, "DIR")?,
-    })
-}
-
 // A command over a file or a folder; none if the name is of another kind.
 fn file_line_in(
     alloc: Global,
@@ -229,6 +217,7 @@ fn file_line_in(
         "load" => Some(load_in(alloc, found)),
         "export" => Some(export_in(alloc, found)),
         "new" => Some(new_in(alloc, found)),
+        "edit" => Some(edit_in(alloc, found)),
         "sheet" => Some(sheet_in(alloc, found)),
         "board" => Some(board_in(alloc, found)),
         "web" => Some(web_in(alloc, found).map(Line::Web)),

@@ -4,6 +4,7 @@ use super::arguments::{
     command_of, with, with_all,
 };
 use super::buttons::BUTTONS_COMMAND;
+use super::editing::EDIT_COMMAND;
 use super::pressing::{GO_COMMAND, STANDBY_COMMAND};
 use super::rehearsing::REHEARSE_COMMAND;
 use super::reporting::{MARK_COMMAND, REPORT_COMMAND};
@@ -19,13 +20,14 @@ const CUE: Argument = Argument::Word("CUE", "The number of the cue, as 12.5");
 const DEVICE: Argument = Argument::Word("DEVICE", "The number of the device, 0 to 111");
 
 /// The commands that read or write a show file, and end.
-const FILES: [Declared; 7] = [
+const FILES: [Declared; 8] = [
     NEW_COMMAND,
     Declared {
         name: "check",
         about: "Tell every mistake of a show file:  cuedesk check evening.toml",
         arguments: &[FILE],
     },
+    EDIT_COMMAND,
     SHEET_COMMAND,
     Declared {
         name: "load",

@@ -1,4 +1,4 @@
-//! The commands `sheet` and `new`, and what stands after them.
+//! The commands over one file or folder alone, and what stands after them.
 use super::arguments::{Argument, Declared, FILE};
 use super::text_in;
 use super::words::Line;
@@ -40,5 +40,19 @@ pub(super) fn sheet_in(alloc: Global, found: &ArgMatches<'_>) -> Result<Line, Li
 pub(super) fn new_in(alloc: Global, found: &ArgMatches<'_>) -> Result<Line, LineFault> {
     Ok(Line::New {
         file: text_in(alloc, found, "FILE")?,
+    })
+}
+
+/// The command `check`, with what stands after it.
+pub(super) fn check_in(alloc: Global, found: &ArgMatches<'_>) -> Result<Line, LineFault> {
+    Ok(Line::Check {
+        file: text_in(alloc, found, "FILE")?,
+    })
+}
+
+/// The command `export`, with what stands after it.
+pub(super) fn export_in(alloc: Global, found: &ArgMatches<'_>) -> Result<Line, LineFault> {
+    Ok(Line::Export {
+        dir: text_in(alloc, found, "DIR")?,
     })
 }

@@ -1,5 +1,6 @@
 //! What a command line can say.
 use super::buttons::Buttons;
+use super::editing::Editing;
 use super::pressing::Pressed;
 use super::rehearsing::Rehearsal;
 use super::reporting::Report;
@@ -60,6 +61,11 @@ pub enum Line {
     /// Write a show file to begin with.
     New {
         file: String,
+    },
+    /// Change one thing of this show file, or take that back.
+    Edit {
+        file: String,
+        editing: Editing,
     },
     /// Print the cue sheet of this show file.
     Sheet {
@@ -129,6 +135,7 @@ impl Line {
             Line::Check { .. }
             | Line::Export { .. }
             | Line::New { .. }
+            | Line::Edit { .. }
             | Line::Sheet { .. }
             | Line::Rehearse(_)
             | Line::Mark { .. }
@@ -144,7 +151,7 @@ impl Line {
             Line::Buttons(buttons) => Some(&mut buttons.name),
             Line::Press(pressed) => Some(&mut pressed.name),
             Line::Check { .. } | Line::Export { .. } | Line::Load { .. } => None,
-            Line::New { .. } | Line::Sheet { .. } | Line::Report(_) => None,
+            Line::New { .. } | Line::Edit { .. } | Line::Sheet { .. } | Line::Report(_) => None,
             Line::Board { .. } | Line::Rehearse(_) | Line::Relay { .. } | Line::Mark { .. } => None,
         }
     }

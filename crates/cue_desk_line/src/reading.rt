@@ -246,6 +246,7 @@ fn watched_in(alloc: Global, found: &ArgMatches<'_>) -> Result<Watched, LineFaul
         dir: text_in(alloc, found, "DIR")?,
         file: option_in(alloc, found, "FILE")?,
         log: option_in(alloc, found, "log")?,
+        alarms: option_in(alloc, found, "alarms")?,
         relay: option_in(alloc, found, "relay")?,
     })
 }

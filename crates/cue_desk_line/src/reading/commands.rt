@@ -64,6 +64,10 @@ const VIEWS: [Declared; 5] = [
             DIR,
             NAMES,
             Argument::Option("log", "The log of serve: its last lines are shown"),
+            Argument::Option(
+                "alarms",
+                "The file of the alarms of a page: where devices stand is read beside it",
+            ),
             RELAY_STATUS,
             PORT_OR_FILE,
             Argument::Number(

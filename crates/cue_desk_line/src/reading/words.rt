@@ -32,6 +32,8 @@ pub struct Watched {
     pub file: Option<String>,
     /// The log of `serve`.
     pub log: Option<String>,
+    /// The file of the alarms of a page: beside it stands where devices stand.
+    pub alarms: Option<String>,
     /// The file in which a relay reports.
     pub relay: Option<String>,
     /// The port of the controller, if the command line or the environment says it.

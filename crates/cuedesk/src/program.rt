@@ -7,6 +7,7 @@ ghost use Rattle.cue_desk.specs.declared.line.LineFault.TheVariants.{Memory};
 mod beside;
 mod board;
 mod buttons;
+mod editing;
 mod locking;
 mod marks;
 mod new;
@@ -34,6 +35,7 @@ use cue_operator::CueVerb;
 use cue_report::marks::Curtain;
 use cue_saying::{print, say};
 use cue_show_file::ShowFile;
+use editing::edit_file;
 use new::write_new;
 use next::press_word;
 use orders::carry_order;
@@ -110,6 +112,7 @@ fn carry_out<R: Files<File = File> + Net + Clock + RandomSource + Eprint + Alloc
         }
         Line::Export { dir } => export(rt, dir.as_str(), writer),
         Line::New { file } => write_new(rt, file.as_str(), writer),
+        Line::Edit { file, editing } => edit_file(rt, file.as_str(), editing, writer),
         Line::Sheet { file, html, title } => {
             print_sheet(rt, file.as_str(), title.as_str(), *html, writer)
         }

@@ -18,6 +18,7 @@ function draw() {
   showManner();
   showStack();
   showLive();
+  showWhereabouts();
   showTimes();
   showEnds();
   showSpoken();

@@ -70,6 +70,7 @@ function take(told, asked) {
   followWays();
   followGo();
   followBefore();
+  followQuestion();
   takeNames(told.names);
   if (now() > sure.until) sure = { press: "", until: 0 };
   draw();
@@ -98,6 +99,7 @@ function unsent(press, told) {
 // Reports a press of the view that is drawn. What became of it stands in the views that follow.
 async function send(press) {
   if (isDark()) { say(pressWords(press) + ": not sent: the desk does not answer", "refused", NOTED); return; }
+  if (asksFirst(press)) return;
   const text = wordFor(press);
   if (wantsWord(press) && text === undefined) { askWord(press); return; }
   say(pressWords(press) + " \u2026", "open", NOTED);

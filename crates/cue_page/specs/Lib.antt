@@ -7,3 +7,4 @@ pub mod Network
 pub mod Page
 pub mod Said
 pub mod Stack
+pub mod Whereabouts

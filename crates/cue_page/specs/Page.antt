@@ -16,10 +16,12 @@ use Rattle.cue_page.specs.Marks.{marks_data}
 use Rattle.cue_page.specs.Network.{contact_data}
 use Rattle.cue_page.specs.Said.{said_data, unsent_data}
 use Rattle.cue_page.specs.Stack.{next_data, number_data}
+use Rattle.cue_page.specs.Whereabouts.{whereabouts_data}
 use Rattle.cue_page.specs.declared.board.FirstHalf.{FirstHalf}
 use Rattle.cue_page.specs.declared.board.Manner.{Manner}
 use Rattle.cue_page.specs.declared.board.Parts.{Parts}
 use Rattle.cue_page.specs.declared.board.SecondHalf.{SecondHalf}
+use Rattle.cue_page.specs.declared.board.whereabouts.Standing.{Standing}
 
 -- how old a thing of this moment is; null if it never came
 abbrev pub age_data : ℕ → Option ℕ → Data
@@ -47,9 +49,9 @@ abbrev pub back_data : Option (List ℕ) → Data
 back_data None = null
 back_data (Some c) = string c
 
--- all that a view says
-abbrev pub view_data : ℕ → List Group → View → Data
-view_data port groups v =
+-- all that a view says, and where devices stand
+abbrev pub view_data : ℕ → List Group → Standing → View → Data
+view_data port groups standing v =
     object (member (codes "alarms") (array (items_of (map (alarm_data port v.at) v.alarms.items)))
     (member (codes "back") (back_data v.back)
     (member (codes "before") (said_data port v.before)
@@ -68,7 +70,8 @@ view_data port groups v =
     (member (codes "said") (said_data port v.said)
     (member (codes "served") (age_data v.at v.served)
     (member (codes "stack") (array (items_of (map number_data v.stack.items)))
-    (member (codes "unsent") (unsent_data v.unsent) no_members)))))))))))))))))))
+    (member (codes "unsent") (unsent_data v.unsent)
+    (member (codes "whereabouts") (whereabouts_data groups v.next standing) no_members))))))))))))))))))))
 
 -- the first half of the parts, each by its name, and more members after them
 abbrev pub first_members : FirstHalf → Members → Members
@@ -95,7 +98,8 @@ second_members p =
     (member (codes "said") (view p.said)
     (member (codes "served") (view p.served)
     (member (codes "stack") (view p.stack)
-    (member (codes "unsent") (view p.unsent) no_members))))))
+    (member (codes "unsent") (view p.unsent)
+    (member (codes "whereabouts") (view p.whereabouts) no_members)))))))
 
 abbrev pub parts_data : Parts → Data
 parts_data p = object (first_members p.first (second_members p.second))
@@ -103,10 +107,10 @@ parts_data p = object (first_members p.first (second_members p.second))
 -- members to which the second half was added, one after the other
 unfoldable pub with_second : SecondHalf → Members → Members
 with_second p members =
-    put (codes "unsent") (view p.unsent) (put (codes "stack") (view p.stack)
-    (put (codes "served") (view p.served) (put (codes "said") (view p.said)
-    (put (codes "read") (view p.read) (put (codes "past") (view p.past)
-    (put (codes "number") (number (unsigned p.number)) members))))))
+    put (codes "whereabouts") (view p.whereabouts) (put (codes "unsent") (view p.unsent)
+    (put (codes "stack") (view p.stack) (put (codes "served") (view p.served)
+    (put (codes "said") (view p.said) (put (codes "read") (view p.read)
+    (put (codes "past") (view p.past) (put (codes "number") (number (unsigned p.number)) members)))))))
 
 -- the line about the show file; null if there is none
 abbrev pub file_line_data : Manner → Data

@@ -14,6 +14,7 @@ mod marks;
 mod network;
 mod said;
 mod stack;
+mod whereabouts;
 
 use alarms::alarms_value;
 use buttons::{has_moves, others_value};
@@ -31,6 +32,8 @@ use said::{said_value, unsent_value};
 use serde_json::{Map, Value, json, put};
 use stack::{next_value, stack_value};
 use std::alloc::{AllocError, Global};
+pub use whereabouts::Standing;
+use whereabouts::whereabouts_value;
 
 // How old a thing is at this moment; null if it never came.
 fn age_value(at: u64, moment: Option<u64>) -> Value
@@ -110,6 +113,7 @@ struct SecondHalf {
     served: Value,
     stack: Value,
     unsent: Value,
+    whereabouts: Value,
 }
 
 // The first half of the members.
@@ -164,6 +168,7 @@ fn put_second(
         served,
         stack,
         unsent,
+        whereabouts,
     } = half;
     put(map, alloc, "number", Value::from(number))?;
     put(map, alloc, "past", past)?;
@@ -171,7 +176,8 @@ fn put_second(
     put(map, alloc, "said", said)?;
     put(map, alloc, "served", served)?;
     put(map, alloc, "stack", stack)?;
-    put(map, alloc, "unsent", unsent)
+    put(map, alloc, "unsent", unsent)?;
+    put(map, alloc, "whereabouts", whereabouts)
 }
 
 // All parts of a view.
@@ -192,8 +198,14 @@ fn joined(alloc: Global, parts: Parts) -> Result<Value, AllocError>
 }
 
 // The parts of a view.
-fn parts_of(alloc: Global, shown: &View, port: u16, groups: &[Group]) -> Result<Parts, AllocError>
-    ensures { IfOk result (λ parts. page.parts_data parts ≡ page.view_data port groups.now shown.now) }
+fn parts_of(
+    alloc: Global,
+    shown: &View,
+    standing: &Standing<'_>,
+    port: u16,
+    groups: &[Group],
+) -> Result<Parts, AllocError>
+    ensures { IfOk result (λ parts. page.parts_data parts ≡ page.view_data port groups.now standing.now shown.now) }
 {
     let at = shown.at;
     let first = FirstHalf {
@@ -218,20 +230,22 @@ fn parts_of(alloc: Global, shown: &View, port: u16, groups: &[Group]) -> Result<
         served: age_value(at, shown.served),
         stack: stack_value(alloc, &shown.stack)?,
         unsent: unsent_value(alloc, shown.unsent)?,
+        whereabouts: whereabouts_value(alloc, standing, shown.next, groups)?,
     };
     Ok(Parts { first, second })
 }
 
-/// What a view says; these cues are stood by together.
+/// What a view says, and where devices stand; these cues are stood by together.
 pub fn view_value(
     alloc: Global,
     shown: &View,
+    standing: &Standing<'_>,
     port: u16,
     groups: &[Group],
 ) -> Result<Value, AllocError>
-    ensures { IfOk result (λ v. view v ≡ page.view_data port groups.now shown.now) }
+    ensures { IfOk result (λ v. view v ≡ page.view_data port groups.now standing.now shown.now) }
 {
-    let parts = parts_of(alloc, shown, port, groups)?;
+    let parts = parts_of(alloc, shown, standing, port, groups)?;
     joined(alloc, parts)
 }
 
@@ -285,10 +299,11 @@ fn page_value(
 pub fn view_text(
     alloc: Global,
     shown: &View,
+    standing: &Standing<'_>,
     names: &Names<'_>,
     manner: &Manner<'_>,
 ) -> Result<String, AllocError> {
     let called = names_value(alloc, names)?;
-    let facts = view_value(alloc, shown, names.port, names.together)?;
+    let facts = view_value(alloc, shown, standing, names.port, names.together)?;
     page_value(alloc, &called, manner, &facts)?.to_string(alloc)
 }

@@ -21,6 +21,8 @@
 //! - What a device tells of itself is said to be told by it, wherever it stands, and decides nothing: no button, no
 //!   alarm and no sound. No live region has its position, which changes with each view; a screen reader hears the
 //!   reason of a failure once, with the failure.
+//! - Which devices stand elsewhere than the stack supposes stands in the view, and with each whether STANDBY asks because
+//!   of it. The question is the script's: a press is sent once it is answered, and GO and CANCEL ask nothing.
 //! - Move here and Release ask once more, a second press within three seconds: both are small buttons beside a finger
 //!   that scrolls, and neither can be taken back. So does the key R, which releases a device only if GO waits for that
 //!   one alone: which one it is, and what comes of it, stands in words before the second press.

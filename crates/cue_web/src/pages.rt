@@ -1,5 +1,5 @@
 //! What the page is answered: itself, the newest view, the show file, and the view that a press has made.
-ghost use Rattle.std.specs.Prelude.{◌≡◌, is_some, IfOk, None, Some};
+ghost use Rattle.std.specs.Prelude.{◌≡◌, is_some, option_map, IfOk, None, Some};
 ghost use Rattle.cue_request.specs.Locks.{after_press, untouched, verdict_on};
 ghost use Rattle.cue_web.specs.Marking.{waiting_after};
 ghost use Rattle.cue_web.specs.Serving.{Answers, HearsOnce, HearsUnless, guard_after};
@@ -9,14 +9,16 @@ use cue_board::Names;
 use cue_connection::{
     Answer, Asking, CurtainMove, Pressed, json_answer, refused_answer, trouble_answer,
 };
+use cue_core::State;
 use cue_desk_run::Desk;
-use cue_page::board::{CurtainMark, Manner, view_text};
+use cue_page::board::{CurtainMark, Manner, Standing, view_text};
 use cue_page::page::{page_text, policy};
 use cue_request::answering::{Kind, NOTHING, Outcome, answer};
 use cue_request::identity::{PageIdentity, Purpose};
 use cue_request::lock::Guard;
 use cue_request::request::Refusal;
 use cue_show_file::{Group, ShowFile, of_show, written};
+use cue_whereabouts::Difference;
 use std::alloc::{AllocError, Global};
 use std::fs::{File, Files};
 use std::net::Net;
@@ -75,6 +77,20 @@ fn names_of<'n>(file: Option<&'n ShowFile>, together: &'n [Group], port: u16) ->
         file,
         together,
         port,
+    }
+}
+
+// Which devices do not stand as the stack supposes, and the show by which that is so.
+fn standing_of<'n>(differences: &'n [Difference], state: Option<&'n State>) -> Standing<'n>
+    ensures differences { result.differences.now ≡ differences.now }
+    ensures show { option_map (λ show. show.now) result.show ≡ option_map (λ state. state.now.show) state.entry }
+{
+    Standing {
+        differences,
+        show: match state {
+            Some(state) => Some(state.show()),
+            None => None,
+        },
     }
 }
 
@@ -202,7 +218,8 @@ impl<'a> Pages<'a> {
             is_rehearsed: self.is_rehearsed,
             marks: self.marks.as_deref(),
         };
-        self.text = view_text(alloc, view, &names, &manner)?;
+        let standing = standing_of(desk.differences(), desk.state());
+        self.text = view_text(alloc, view, &standing, &names, &manner)?;
         self.drawn = Some(view.number);
         Ok(())
     }

@@ -1,3 +1,4 @@
 pub mod Beginning
+pub mod Devices
 pub mod Orders
 pub mod Windows

@@ -23,8 +23,8 @@ fn devices_value(alloc: Global, devices: &[DeviceNo]) -> Result<Value, AllocErro
     Ok(Value::Array(numbers))
 }
 
-// The cue of an attempt; null if nobody knows it any more.
-fn cue_value(alloc: Global, cue: Option<CueNo>) -> Result<Value, AllocError>
+/// The cue of an attempt; null if nobody knows it any more.
+pub(super) fn cue_value(alloc: Global, cue: Option<CueNo>) -> Result<Value, AllocError>
     ensures { IfOk result (λ v. view v ≡ ends.cue_data cue) }
 {
     match cue {

@@ -32,8 +32,8 @@ fn why(next: Next) -> &'static str
     }
 }
 
-// The cues that are stood by together with the one that is next.
-fn companions_of(groups: &[Group], next: Next) -> &[CueNo]
+/// The cues that are stood by together with the one that is next.
+pub(super) fn companions_of(groups: &[Group], next: Next) -> &[CueNo]
     ensures { result.now ≡ stack.companions_of groups.now next }
 {
     match next {

@@ -21,13 +21,14 @@ mod sounding;
 mod stack;
 mod themes;
 mod times;
+mod whereabouts;
 mod windows;
 
 /// The styles, in order: a later one has the last word.
 pub(super) const STYLES: [&str; 4] = [themes::TEXT, layout::TEXT, controls::TEXT, narrow::TEXT];
 
 /// The scripts, in order: what one does at once stands in those before it.
-pub(super) const SCRIPTS: [&str; 18] = [
+pub(super) const SCRIPTS: [&str; 19] = [
     elements::TEXT,
     naming::TEXT,
     windows::TEXT,
@@ -36,6 +37,7 @@ pub(super) const SCRIPTS: [&str; 18] = [
     live::TEXT,
     moving::TEXT,
     claims::TEXT,
+    whereabouts::TEXT,
     times::TEXT,
     alarms::TEXT,
     keys::TEXT,
@@ -90,6 +92,8 @@ pub(super) const BODY: &str = r#"">
 <div id="next-box"><h2 id="next-title">Next</h2><div id="next" class="next"></div></div>
 <h2 id="live-title">Live</h2>
 <div id="live" role="group" aria-labelledby="live-title"></div>
+<div id="whereabouts" role="group" aria-labelledby="whereabouts-title" hidden>
+<h2 id="whereabouts-title">Stands elsewhere</h2><ul id="elsewhere"></ul></div>
 </section>
 <section id="rest" aria-labelledby="stack-title">
 <div id="stack-bar"><h2 id="stack-title">Stack</h2>
@@ -116,12 +120,15 @@ pub(super) const BODY: &str = r#"">
 <div id="words" role="alert">S is STANDBY, space is GO, Esc is CANCEL.</div>
 <button id="standby" type="button" disabled aria-keyshortcuts="S">
 <b>STANDBY</b> <span id="standby-cue">no cue</span></button>
+<button id="anyway" type="button" disabled aria-keyshortcuts="S" hidden>
+<b>STANDBY</b> <span id="anyway-why"></span></button>
 <button id="cancel" type="button" disabled aria-keyshortcuts="Escape">
 <b>CANCEL</b> <span id="cancel-cue"></span></button>
 <button id="go" type="button" disabled aria-keyshortcuts="Space">
 <b>GO</b> <span id="go-cue">no cue is ready</span></button>
 </footer>
 <div id="spoken" class="hidden" aria-live="polite"></div>
+<div id="elsewhere-said" class="hidden" role="status"></div>
 <div id="flash" aria-hidden="true"></div>
 "#;
 

@@ -1,35 +1,26 @@
 //! The command `board`: once as text, or again and again on a terminal.
-ghost use Rattle.std.specs.Prelude.{◌≡◌, ◌-◌, ◌+◌};
+ghost use Rattle.std.specs.Prelude.{◌≡◌};
 ghost use Rattle.cuedesk.specs.Windows.{window_of};
 
+mod drawing;
 mod screen;
 
-use super::beside::{file_line, only, read_log, relay_line};
 use super::opening::open_desk;
 use super::renewing::{Begun, Renewal, WatchedFile, begin};
-use super::sign::{REHEARSAL, SignWatch, sign_of};
-use cue_board::{Names, board_lines};
+use super::sign::{SignWatch, sign_of};
+use super::web::{devices_path, hear_devices};
 use cue_desk::ending::Ending;
 use cue_desk_line::Watched;
 use cue_desk_run::{Beat, Desk, Sources};
 use cue_files_run::open_store;
 use cue_saying::{failed, print, say, say_fault};
 use cue_show_file::{Group, ShowFile};
+use drawing::joined;
 use screen::Screen;
-use std::alloc::{AllocError, Global};
 use std::fs::{File, Files};
 use std::io::{self, Eprint, Write};
 use std::net::Net;
 use std::time::Clock;
-
-// What the numbers of a view are called, and which cues stand by together.
-fn names_of<'n>(file: Option<&'n ShowFile>, together: &'n [Group], port: u16) -> Names<'n> {
-    Names {
-        file,
-        together,
-        port,
-    }
-}
 
 /// How long a round waits at most, in milliseconds.
 const PAUSE: u64 = 20;
@@ -56,13 +47,6 @@ pub fn window_of(is_once: bool, given: Option<u16>) -> Option<u16>
     }
 }
 
-// How many lines the view has in a window of so many rows, with so many other lines and a row for the cursor.
-fn room_in(rows: u16, others: usize) -> usize
-    ensures { result ≡ rows - (others + 1) }
-{
-    usize::from(rows).saturating_sub(1).saturating_sub(others)
-}
-
 /// The board of one desk.
 #[derive(Drop)]
 struct Board<'a, R> {
@@ -83,14 +67,6 @@ struct Board<'a, R> {
 }
 
 impl<'a, R: Files<File = File> + Net + Clock + AllocGlobal> Board<'a, R> {
-    // The last lines of the log, if one is shown.
-    fn log_lines(&self) -> Result<Vec<String>, AllocError> {
-        match self.log {
-            Some(path) => read_log(self.rt, path),
-            None => Ok(Vec::new(self.rt.alloc())),
-        }
-    }
-
     // Looks for the sign of a rehearsal.
     fn look_for_sign(&mut self) -> io::Result<()> {
         let now = self.desk.now()?;
@@ -98,16 +74,6 @@ impl<'a, R: Files<File = File> + Net + Clock + AllocGlobal> Board<'a, R> {
             self.is_rehearsed = sign.look(self.rt, now);
         }
         Ok(())
-    }
-
-    // That a rehearsal plays the devices, before all else, if one does.
-    fn sign_lines(&self) -> Result<Vec<String>, AllocError> {
-        let alloc = self.rt.alloc();
-        if self.is_rehearsed {
-            only(alloc, String::from_str(alloc, REHEARSAL)?)
-        } else {
-            Ok(Vec::new(alloc))
-        }
     }
 
     // Looks at the show file, and shows it if it is new. If memory is short, what is told of it stays.
@@ -124,73 +90,6 @@ impl<'a, R: Files<File = File> + Net + Clock + AllocGlobal> Board<'a, R> {
         }
         Ok(())
     }
-
-    // The lines after those of the view: what is told of the show file, and the log.
-    fn other_lines(&self) -> Result<Vec<String>, AllocError> {
-        let mut lines = file_line(self.rt.alloc(), self.told.as_deref())?;
-        lines.append(&mut self.log_lines()?)?;
-        Ok(lines)
-    }
-
-    // The lines of the newest view, in the room that these others leave: after the sign, and before the others.
-    fn lines_before(&self, others: &mut Vec<String>) -> Result<Vec<String>, AllocError> {
-        let mut lines = self.sign_lines()?;
-        let names = names_of(self.file.as_ref(), self.desk.together(), self.port);
-        let room = match self.rows {
-            Some(rows) => Some(room_in(rows, others.len().saturating_add(lines.len()))),
-            None => None,
-        };
-        let mut shown = board_lines(self.rt.alloc(), self.desk.view(), &names, room)?;
-        lines.append(&mut shown)?;
-        lines.append(others)?;
-        Ok(lines)
-    }
-
-    // The lines of the newest view, and after them the others.
-    fn lines(&self) -> Result<Vec<String>, AllocError> {
-        let mut others = self.other_lines()?;
-        let lines = self.lines_before(&mut others);
-        drop(others);
-        lines
-    }
-
-    // Why there is nothing of a relay that is watched, if that is so.
-    fn relay_lines(&self) -> Result<Vec<String>, AllocError> {
-        match self.relay {
-            Some(path) if self.desk.view().network.is_empty() => relay_line(self.rt, path),
-            _ => Ok(Vec::new(self.rt.alloc())),
-        }
-    }
-
-    // That serve says otherwise than the files, as it may while a change is under way, if that is so.
-    fn differing_lines(&self) -> Result<Vec<String>, AllocError> {
-        let (alloc, port) = (self.rt.alloc(), self.port);
-        if !self.desk.view().differs {
-            return Ok(Vec::new(alloc));
-        }
-        let line = format!(in alloc;
-            "?      serve at port {port} says otherwise: a change is under way, or it has other files"
-        )?;
-        only(alloc, line)
-    }
-
-    // The lines of a board that is printed once, with what only a second or five of looking would show.
-    fn all_lines(&self) -> Result<Vec<String>, AllocError> {
-        let mut lines = self.lines()?;
-        lines.append(&mut self.relay_lines()?)?;
-        lines.append(&mut self.differing_lines()?)?;
-        Ok(lines)
-    }
-}
-
-// The lines as one text.
-fn joined(alloc: Global, lines: &[String]) -> Result<String, AllocError> {
-    let mut text = String::new(alloc);
-    for line in lines {
-        text.push_str(line.as_str())?;
-        text.push_str("\n")?;
-    }
-    Ok(text)
 }
 
 // Goes on until the store was read and a status answered, or so many milliseconds have passed.
@@ -357,8 +256,12 @@ pub fn show_board<R: Files<File = File> + Net + Clock + Eprint + AllocGlobal, W:
     writer: &mut W,
 ) -> Result<(), Ending> {
     let sign = sign_of(rt.alloc(), watched.file.as_deref())?;
+    let places = devices_path(rt.alloc(), watched.alarms.as_deref())?;
     let (begun, together) = begin(rt, watched.file.as_deref(), watched.port)?;
     let mut board = open_board(rt, watched, rows, sign, begun, &together)?;
+    if let Some(path) = places.as_deref() {
+        hear_devices(rt, path, &mut board.desk);
+    }
     let shown = if rows.is_none() {
         print_once(&mut board, writer)
     } else {

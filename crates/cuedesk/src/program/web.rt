@@ -2,6 +2,8 @@
 ghost use Rattle.std.specs.Prelude.{◌≡◌};
 ghost use Rattle.cue_web.specs.Serving.{OnlyAsked};
 
+mod keeping;
+
 use super::locking::lock_word;
 use super::marks::MarksFile;
 use super::opening::open_desk;
@@ -9,12 +11,14 @@ use super::renewing::{Begun, Renewal, WatchedFile, begin};
 use super::sign::{SignWatch, sign_of};
 use cue_desk::ending::Ending;
 use cue_desk_line::{PageUse, Web};
-use cue_desk_run::{AlarmsFile, Desk, Sources};
+use cue_desk_run::{Desk, Sources};
 use cue_request::identity::{PageIdentity, Purpose};
-use cue_saying::{Shown, failed, print, say, say_fault};
+use cue_saying::{failed, print, say, say_fault};
 use cue_show_file::Group;
 use cue_web::{Beside, Connections, Pages};
 use hex::encode;
+pub use keeping::{devices_path, hear_devices};
+use keeping::{keep_all, say_loss};
 use std::alloc::Global;
 use std::fs::{File, Files};
 use std::io::{self, Eprint, Write};
@@ -165,6 +169,17 @@ impl<R: Files<File = File> + Net + Clock + Eprint + AllocGlobal> Server<'_, R> {
         Ok(is_waited_for)
     }
 
+    // Says what could not be sent or kept, each once.
+    fn say_losses(&mut self)
+        ensures station { self.new.desk.station ≡ self.old.desk.station }
+        ensures identity { self.new.pages.identity ≡ self.old.pages.identity }
+        ensures guard { self.new.pages.guard ≡ self.old.pages.guard }
+    {
+        say_fault(self.rt, self.desk.take_fault());
+        say_loss(self.rt, "the alarms", self.desk.take_loss());
+        say_loss(self.rt, "where devices stand", self.desk.take_place_loss());
+    }
+
     // One round, and what went wrong in it; then it waits until something comes.
     #[tactic(auto, using(cue_web::proofs::ServeLemmas::asked_then, cue_web::proofs::ServeLemmas::asked_same))]
     fn go_on(&mut self, connections: &mut Connections) -> io::Result<()>
@@ -172,8 +187,7 @@ impl<R: Files<File = File> + Net + Clock + Eprint + AllocGlobal> Server<'_, R> {
             self.old.desk.station self.new.desk.station }
     {
         let is_waited_for = self.round(connections)?;
-        say_fault(self.rt, self.desk.take_fault());
-        say_loss(self.rt, self.desk.take_loss());
+        self.say_losses();
         self.desk.wait(if is_waited_for { 0 } else { PAUSE })
     }
 
@@ -191,69 +205,6 @@ impl<R: Files<File = File> + Net + Clock + Eprint + AllocGlobal> Server<'_, R> {
         }
         Ok(())
     }
-}
-
-// Says why the alarms are not kept, if that is so.
-fn say_loss<R: Eprint>(rt: &R, loss: Option<io::Error>) {
-    if let Some(why) = loss {
-        say(rt, format_args!("the alarms cannot be kept: {why}"));
-    }
-}
-
-// Keeps the alarms of the page where the command line says; a page that only shows hears of those of another.
-fn keep_alarms<'a, R: Files<File = File> + Net + Clock + Eprint + AllocGlobal>(
-    rt: &R,
-    web: &'a Web,
-    desk: &mut Desk<'a, R>,
-) -> Result<(), Ending> {
-    let Some(path) = web.alarms.as_deref() else {
-        return Ok(());
-    };
-    let file = match web.page_use {
-        PageUse::Plays(_) => AlarmsFile::Own(path),
-        PageUse::Shows(_) => AlarmsFile::OfAnother(path),
-    };
-    match desk.keep_alarms(file) {
-        Ok(()) => Ok(()),
-        Err(why) => {
-            let path = Shown { text: path };
-            say(
-                rt,
-                format_args!("{path}: no file of alarms, and left as it is: {why}"),
-            );
-            Err(Ending::Failed)
-        }
-    }
-}
-
-// Shows the marks of the evening, if the command line says where they are. If they cannot be read, that is said: the page
-// is there all the same, and looks again.
-fn keep_marks<'a, R: Files<File = File> + Net + Clock + Eprint + AllocGlobal>(
-    web: &'a Web,
-    server: &mut Server<'a, R>,
-) {
-    let Some(path) = web.marks.as_deref() else {
-        return;
-    };
-    let mut marks = MarksFile::new(path);
-    let found = marks.read(server.rt);
-    if let Err(why) = &found {
-        let path = Shown { text: path };
-        say(server.rt, format_args!("{path}: no marks are read: {why}"));
-    }
-    let none = Vec::new(server.rt.alloc());
-    server.pages.put_marks(found.unwrap_or(none));
-    server.marks = Some(marks);
-}
-
-// Keeps alarms and marks where the command line says.
-fn keep_all<'a, R: Files<File = File> + Net + Clock + Eprint + AllocGlobal>(
-    web: &'a Web,
-    server: &mut Server<'a, R>,
-) -> Result<(), Ending> {
-    keep_alarms(server.rt, web, &mut server.desk)?;
-    keep_marks(web, server);
-    Ok(())
 }
 
 // Listens at this port; else why it cannot is said.
@@ -345,6 +296,7 @@ pub fn serve_page<
 >(rt: &'a R, web: &'a Web, writer: &mut W) -> Result<(), Ending> {
     let (token, run) = (draw_token(rt)?, draw_token(rt)?);
     let word = lock_word(rt, &web.page_use)?;
+    let places = devices_path(rt.alloc(), web.alarms.as_deref())?;
     let sign = sign_of(rt.alloc(), web.file.as_deref())?;
     let (begun, together) = begin(rt, web.file.as_deref(), web.port)?;
     let identity = PageIdentity {
@@ -354,7 +306,7 @@ pub fn serve_page<
     };
     let page = (identity, token.as_str(), run);
     let mut server = open_server(rt, web, page, sign, begun, &together)?;
-    let served = match keep_all(web, &mut server) {
+    let served = match keep_all(web, places.as_deref(), &mut server) {
         Ok(()) => serve_at(&mut server, web.http, writer),
         Err(ending) => Err(ending),
     };

@@ -27,6 +27,7 @@ footer button { font: inherit; font-weight: 800; line-height: 1.2; min-height: 6
 footer button b { display: block; font-size: 2.1rem; letter-spacing: .06em; }
 footer button span { font-size: 1rem; font-weight: 600; }
 #standby:enabled { background: var(--amber-fill); color: var(--on-amber); }
+#anyway:enabled { background: var(--chip); color: var(--text); border: 5px dashed var(--amber); }
 #go:enabled { background: var(--green-fill); color: var(--on-green); box-shadow: 0 0 34px var(--glow); }
 #cancel:enabled { background: var(--chip); color: var(--text); border-color: var(--edge); }
 #cancel b { font-size: 1.2rem; }

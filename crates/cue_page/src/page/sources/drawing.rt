@@ -21,6 +21,7 @@ function draw() {
   showManner();
   showStack();
   showLive();
+  showWhereabouts();
   showTimes();
   showEnds();
   showSpoken();

@@ -88,6 +88,7 @@ function goWords() {
 }
 
 function showKeys() {
+  showQuestion(keyOf("standby"));
   showKey("standby", view && view.next.cue !== null ? "cue " + view.next.cue + withWords(view.next.with) : "no cue");
   showKey("go", goWords());
   showKey("cancel", "");

@@ -111,6 +111,11 @@ td.heard, td.silent { font-size: .9rem; }
 .waiting { color: var(--amber); } .is-ready, .done { color: var(--green); } .failed-device { color: var(--red); }
 .excused { color: var(--violet); } .let-go { color: var(--blue); }
 #network, #history { margin-top: 1.1rem; }
+#whereabouts { margin-top: .8rem; padding-left: .8rem; border-left: 6px solid var(--amber); }
+#elsewhere { list-style: none; padding: 0; margin-top: .2rem; }
+#elsewhere li { display: grid; grid-template-columns: 2.4rem minmax(0, 1fr); gap: .4rem; overflow-wrap: anywhere; }
+#elsewhere .asks { font-weight: 700; }
+#elsewhere .unheard { display: block; color: var(--soft); }
 #heard { list-style: none; padding: 0; margin-top: .4rem; font-size: .9rem; display: grid; gap: .1rem 1.2rem;
   grid-template-columns: repeat(auto-fill, minmax(min(17rem, 100%), 1fr)); }
 #heard li { display: grid; grid-template-columns: 2.4rem 1fr auto; gap: .4rem; border-top: 1px solid var(--line); }

@@ -31,6 +31,7 @@ pub(super) const TEXT: &str = r#"
 .low #stack li .small { grid-column: 4; justify-self: start; }
 .low .attempt { padding: .2rem .6rem; margin-top: .2rem; }
 .low .attempt h3 { font-size: 1.1rem; }
+.low #whereabouts { margin-top: .2rem; }
 .low .since b, .low .left b { font-size: 1.4rem; }
 .low .since span { font-size: .8rem; }
 .low .left { margin: .1rem 0; }

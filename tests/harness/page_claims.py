@@ -1,7 +1,7 @@
 """What devices tell of themselves, on the page: always said to be told by them, as text alone, and deciding nothing."""
 from checking import check
 from page_evening import SHOWN, Telling
-from page_scenes import SPOKEN, ends, goes_to, is_lit, sees
+from page_scenes import SPOKEN, ends, goes_to, is_lit, sees, stands_by
 
 WAY = """const bar = document.getElementById('way-' + arguments[0]);
   return bar.hidden ? null : ['aria-valuenow', 'aria-valuetext', 'aria-label'].map((name) => bar.getAttribute(name));"""
@@ -64,7 +64,7 @@ def tells(page, evening, relay, pictures):
     with Telling(relay, {4: (1, False), 8: (1, False)}) as told:
         by_one_that_rests(page, told)
         goes_to(page, "6")
-        page.click("standby")
+        stands_by(page)
         check("GO lights", is_lit(page))
         attempt = evening.view()["live"][0]["attempt"]
         page.click("go")

@@ -7,7 +7,7 @@ import serving
 from browser import ENTER, Browser
 from checking import check
 from page_evening import Evening
-from page_scenes import ends, goes_to, is_lit
+from page_scenes import ends, goes_to, is_lit, stands_by
 
 LINE = re.compile(r"\d{4}-\d\d-\d\dT\d\d:\d\d:\d\dZ curtain (up|down)\n")
 ROLES = "return ['wall', 'last-go', 'act'].map((id) => document.getElementById(id).getAttribute('role'))"
@@ -53,7 +53,7 @@ def of_last_go(page, evening):
     """How long ago the last GO was, also after a new start of the page."""
     check("no GO was seen yet", not page.text("last-go"))
     goes_to(page, "1")
-    page.click("standby")
+    stands_by(page)
     check("GO lights", is_lit(page, "1"))
     page.key(" ")
     check("the last GO is told", page.shows("last-go", "last GO 0:00:0", 3))
@@ -111,7 +111,7 @@ def of_lost_file(page, evening):
 def of_ten_seconds(page, evening):
     """The ten seconds pass: one press in the alarm stands the same cue by again."""
     goes_to(page, "1")
-    page.click("standby")
+    stands_by(page)
     check("GO lights", is_lit(page, "1"))
     check("its ten seconds pass", page.shows("alarms", "lost its standby: ten seconds passed", 14))
     check("the alarm has a button that stands it by again", page.shows("alarms", "Stand by again", 3))

@@ -4,7 +4,7 @@ import time
 from browser import ENTER, ESCAPE
 from checking import check
 from page_list import types
-from page_scenes import ends, goes_to, is_lit, releases, twice
+from page_scenes import ends, goes_to, is_lit, presses_s, releases, stands_by, twice
 
 WORD = "open-sesame"
 HEADER = "return [document.getElementById('locked').hidden, document.getElementById('lock-again').hidden]"
@@ -16,7 +16,7 @@ def waits_for_one(page, evening):
     goes_to(page, "5")
     page.key("r")
     check("R where nothing is stood by says so", page.shows("words", "R releases no device: no cue is stood by"))
-    page.click("standby")
+    stands_by(page)
     check("GO waits for device 22", page.shows("go-cue", "waits for 22"))
     page.key(" ")
     check("a GO too early says for whom it waits", page.shows("words", "waits for device 22 Fog machine"))
@@ -39,7 +39,7 @@ def waits_for_two(page, evening):
     """R releases nobody while two are waited for, and says that a required device takes its cue with it."""
     evening.stop("devices")
     goes_to(page, "6")
-    page.click("standby")
+    stands_by(page)
     check("GO waits for both", page.shows("go-cue", "waits for 8 Wagon, stage left; 9 Wagon, stage right"))
     page.key("r")
     check("R says that there are two", page.shows("words", "R releases no device: cue 6 waits for 2 devices"))
@@ -83,7 +83,7 @@ def is_locked(page, evening):
     check("a second move wants no word", page.text("standby-cue") == "cue 1")
     page.click("lock-again")
     check("it can be locked again", page.waits_for(lambda: page.run(HEADER) == [False, True]))
-    page.key("s")
+    presses_s(page)
     check("STANDBY wants no word", is_lit(page, "1"))
     page.key(" ")
     check("nor does GO", ends(page, "1", "complete"))

@@ -11,7 +11,7 @@ import serving
 from browser import ESCAPE, Browser
 from checking import check
 from page_evening import Evening
-from page_scenes import chooses, ends, goes_to, is_lit, sees
+from page_scenes import chooses, ends, goes_to, is_lit, sees, stands_by
 
 SHOW = """[[device]]
 number = 3
@@ -74,7 +74,7 @@ IS_SOON = ("const e = document.querySelector('.left .soon'); "
 def stood_by(page, evening, cue):
     evening.play()
     goes_to(page, cue)
-    page.click("standby")
+    stands_by(page)
     check("GO lights", is_lit(page, cue))
 
 
@@ -234,7 +234,7 @@ def end_of_stack(page, evening):
     """A standby that is cancelled after the last cue makes no cue 1 next."""
     evening.play()
     goes_to(page, "2")
-    page.click("standby")
+    stands_by(page)
     check("GO lights", is_lit(page, "2"))
     page.click("go")
     check("the last cue is given", ends(page, "2", "complete"))

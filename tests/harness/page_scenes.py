@@ -39,12 +39,31 @@ def goes_to(page, cue):
     check(f"cue {cue} is next", page.shows("standby-cue", f"cue {cue}"))
 
 
+AGAIN = 1.1  # seconds after which a second press of STANDBY is no second tap
+
+
+def stands_by(page):
+    """Presses STANDBY, and once more where it asks because a device stands elsewhere."""
+    page.click("standby")
+    if page.find("anyway").is_displayed():
+        time.sleep(AGAIN)
+        page.click("anyway")
+
+
+def presses_s(page):
+    """The same by the key S."""
+    page.key("s")
+    if page.find("anyway").is_displayed():
+        time.sleep(AGAIN)
+        page.key("s")
+
+
 def stands_by_key(page, cue):
     """The key S, as soon as STANDBY is lit: it is dark until the store shows the last press. Where the line says that
     the press did nothing, it is pressed again, and the line is printed."""
     for _ in range(3):
         check("STANDBY is lit", page.waits_for(lambda: page.find("standby").is_enabled()))
-        page.key("s")
+        presses_s(page)
         if page.waits_for(lambda: page.find("go").is_enabled() and page.text("go-cue") == f"cue {cue}", 4):
             break
         print(f"     the line says: {page.text('words')}; GO says: {page.text('go')}", flush=True)
@@ -64,7 +83,7 @@ def ends(page, cue, outcome):
 def gives(page, evening, cue):
     """One cue by the buttons."""
     goes_to(page, cue)
-    page.click("standby")
+    stands_by(page)
     check("GO lights", is_lit(page, cue))
     check("the card says that it is chosen", "CHOSEN" in page.text("live"))
     page.click("go")
@@ -85,7 +104,7 @@ def prepares(page, evening, pictures):
     """A cue with an optional device that does not answer, which is released; and GO before that."""
     evening.play("--silent", "22")
     goes_to(page, "5")
-    page.click("standby")
+    stands_by(page)
     check("who has not answered is shown", page.shows("live", "waiting for 22") and page.shows("live", "ready"))
     check("GO does not light", not page.find("go").is_enabled())
     page.key(" ")
@@ -112,7 +131,7 @@ def line_of_now(page, evening):
     """Why a button was dark goes from the line as soon as it is lit, and each button has a reason of its own."""
     evening.play("--silent", "22")
     goes_to(page, "5")
-    page.click("standby")
+    stands_by(page)
     check("the cue waits for a device", page.shows("live", "waiting for 22"))
     time.sleep(1.2)  # within a second it is the same press, of a key that bounces
     page.key("s")
@@ -143,10 +162,10 @@ def is_refused(page, evening):
     """A refusal stands where the eye is: STANDBY of a cue while another one has a device of it."""
     evening.play()
     goes_to(page, "3")
-    page.click("standby")
+    stands_by(page)
     check("GO lights", is_lit(page))
     goes_to(page, "2")
-    page.click("standby")
+    stands_by(page)
     check("the name of a device is a text", SHOWN in page.text("live"))
     check("the reason stands in words", page.waits_for(lambda: "busy" in page.text("words")))
     check("it is marked", page.find("words").get_attribute("class") == "refused")
@@ -209,7 +228,7 @@ def stand_by_together(page, evening, pictures):
     moved = twice(page, "goto-10", "stack", lambda: page.text("standby-cue") == named)
     check("STANDBY names the cues that stand by together", moved)
     check("and so does NEXT", page.text("next").count("with 8.5") == 1)
-    page.key("s")
+    presses_s(page)
     check("one key stands them all by", evening.waits_for(lambda view: sum(one["ready"] for one in view["live"]) == 3))
     check("and that is said", page.waits_for(lambda: page.text("words").startswith("STANDBY given for cue 10")
                                             and page.text("words").endswith(f" with {', '.join(TOGETHER)}")))
@@ -239,7 +258,7 @@ def sees(page):
 def fails(page, evening, pictures):
     evening.play_apart(8)
     goes_to(page, "6")
-    page.click("standby")
+    stands_by(page)
     check("GO lights", is_lit(page))
     before = sounded(page)
     page.click("go")
@@ -260,15 +279,15 @@ def fails(page, evening, pictures):
 def loses_power(page, evening):
     evening.play(move=2500)
     goes_to(page, "7")
-    page.click("standby")
+    stands_by(page)
     check("GO lights", is_lit(page))
     evening.power_is_lost()
     check("power lost before GO: the cue is cancelled, and why", ends(page, "7", "cancelled: the controller was started again"))
     check("GO is dark", not page.find("go").is_enabled())
-    page.click("standby")
+    stands_by(page)
     check("it is stood by again", is_lit(page, "7"))
     page.click("go")
-    check("it is given", page.shows("live", "given"))
+    check("it is given", page.shows("live", "since GO"))
     evening.power_is_lost()
     check("power lost after GO: the cue completes", ends(page, "7", "complete"))
 
@@ -280,7 +299,7 @@ def second_tab(page, evening):
     evening.play()
     check("a second tab shows the same", page.shows("stack", "Finale, all in"))
     goes_to(page, "8")
-    page.click("standby")
+    stands_by(page)
     check("GO lights there", is_lit(page, "8"))
     page.driver.switch_to.window(first)
     check("in the first one it was chosen in another window", page.shows("go-cue", "chosen in another window"))
@@ -317,7 +336,7 @@ def stays_in_sight(page, evening, relay):
     check("nothing is live", page.shows("live", "Nothing is stood by", 20))
     with Telling(relay, {4: (1, False)}) as told:
         goes_to(page, "3")
-        page.click("standby")
+        stands_by(page)
         check("GO lights", is_lit(page, "3"))
         page.click("go")
         check("it is given", page.shows("live", "given"))
@@ -370,7 +389,7 @@ def hears(page, evening, relay, pictures):
     check("with its name", SHOWN in page.text("heard"))
     check("and that one was not heard", page.shows("heard-22", "not heard since the relay started"))
     goes_to(page, "5")
-    page.click("standby")
+    stands_by(page)
     write_status(relay, {4: (4, False), 20: (4, False), 22: (None, False)})
     check("beside what it has answered, too", page.waits_for(lambda: page.run(ROWS) > 0))
     before = sounded(page)
@@ -419,7 +438,7 @@ def waits_for_22(page):
     if "22" in page.text("live"):
         gives_up(page)
     goes_to(page, "5")
-    page.click("standby")
+    stands_by(page)
     check("the cue waits for device 22", page.shows("live", "waiting for 22"))
 
 

@@ -52,6 +52,7 @@ ELSEWHERE = (
     ("cuedesk web * --read-only *", "tests/runs/fly-floor"),
     ("cuedesk new *", "tests/runs/sheet"),
     ("cuedesk sheet *", "tests/runs/sheet"),
+    ("cuedesk edit *", "tests/runs/edit"),
     ("cuedesk report *", "tests/runs/report: it wants the log of an evening"),
     ("cuedesk mark *", "tests/runs/report"),
     ("cuedesk go --wait*", "tests/runs/buttons"),

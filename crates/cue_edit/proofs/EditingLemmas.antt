@@ -6,7 +6,8 @@ use Rattle.std.specs.Option.{option_map_or}
 use Rattle.cue_show.proofs.TextLemmas.{same_text-true}
 use Rattle.cue_show.specs.Number.{same_text}
 use Rattle.cue_show_file.specs.declared.file.CueEntry.{CueEntry}
-use Rattle.cue_edit.specs.Editing.{SeenCue, carried, copied, is_at, placed, renumbered, seen, signed, signed_at, without}
+use Rattle.cue_edit.specs.Editing.{SeenCue, carried, copied, is_at, placed, renumbered, seen, signed}
+use Rattle.cue_edit.specs.Editing.{signed_at, without}
 use Rattle.cue_edit.specs.Laws.{count, is_number, one_if, told}
 use Rattle.cue_edit.specs.declared.edit.Sign.{Sign}
 use Rattle.cue_edit.specs.declared.edit.Sign.TheVariants as sign
@@ -26,7 +27,8 @@ told-at n s c =
 
 pub told-all : (n : List ℕ) (s : Sign) (cs : List SeenCue) → map told (map (signed_at n s) cs) ≡ map told cs
 told-all n s [] = refl
-told-all n s (c ∷ cs) = ap (λ t. t ∷ map told (map (signed_at n s) cs)) (told-at n s c) ∙ ap (λ ts. told c ∷ ts) (told-all n s cs)
+told-all n s (c ∷ cs) =
+    ap (λ t. t ∷ map told (map (signed_at n s) cs)) (told-at n s c) ∙ ap (λ ts. told c ∷ ts) (told-all n s cs)
 
 -- ---- order
 

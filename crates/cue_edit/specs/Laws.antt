@@ -10,7 +10,8 @@ use Rattle.cue_edit.specs.declared.edit.Sign.{Sign}
 abbrev pub told : SeenCue → List ℕ × List Part
 told c = (c.number, c.parts)
 
--- whichever sign of whichever cue is set, the controller is told of the same cues with the same parts, in the same order
+-- Whichever sign of whichever cue is set: the controller is told of the same cues with the same parts, in the same
+-- order.
 abbrev pub SignsMoveNothing : Type 0
 SignsMoveNothing =
     (n : List ℕ) (s : Sign) (cs : List SeenCue) → map told (changed n (change.Sign s) cs) ≡ map told cs
@@ -29,8 +30,8 @@ count is_such (c ∷ cs) = one_if (is_such c) + count is_such cs
 abbrev pub is_number : List ℕ → SeenCue → Bool
 is_number n c = same_text c.number n
 
--- Wherever a cue is carried whose number no other one has: of whatever kind, there are as many cues as before. So none is
--- lost, and none comes twice.
+-- Wherever a cue is carried whose number no other one has: of whatever kind, there are as many cues as before. So none
+-- is lost, and none comes twice.
 abbrev pub CarryingKeepsAll : Type 0
 CarryingKeepsAll =
     (before : Option (List ℕ)) (n : List ℕ) (cs : List SeenCue) (is_such : SeenCue → Bool)

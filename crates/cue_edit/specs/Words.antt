@@ -37,7 +37,8 @@ done_said e = changed_said e.cue e.change
 abbrev pub no_place_by : List ℕ → Option (List ℕ) → List ℕ
 no_place_by c None = []
 no_place_by c (Some before) =
-    codes "cue " ++ (c ++ (codes " cannot come before cue " ++ (before ++ codes ": that is itself, or not in the file")))
+    codes "cue "
+    ++ (c ++ (codes " cannot come before cue " ++ (before ++ codes ": that is itself, or not in the file")))
 
 abbrev pub no_place_said : List ℕ → Change → List ℕ
 no_place_said c (change.Before before) = no_place_by c before

@@ -269,12 +269,12 @@ fn judged(
     }))
 }
 
-/// A show file with one change: what the file is to say is asked for, its new text is made of the old one, and read again.
-/// The file has to be the one that the text says, without a mistake; of any other one nothing is taken. It takes time and
-/// memory for a reading of the whole text.
+/// A show file with one change: its new text is made of the old one, read again, and compared with what was asked for.
+/// The file has to be the one that the text says, without a mistake; of any other one nothing is taken. It takes time
+/// and memory for a reading of the whole text.
 ///
-/// `NoCue`, `NoPlace` and `Taken` come of the numbers alone, and before anything else; `Mistakes` if the changed file would
-/// have some, and `Form` if the change cannot be made in this text.
+/// `NoCue`, `NoPlace` and `Taken` come of the numbers alone, and before anything else; `Mistakes` if the changed file
+/// would have some, and `Form` if the change cannot be made in this text.
 pub fn apply(
     alloc: Global,
     text: &str,

@@ -1,5 +1,5 @@
-//! Where a cue and its values stand in the text of a show file. What is found here is a guess about the text: what becomes
-//! of it is read and compared before it counts.
+//! Where a cue and its values stand in the text of a show file. What is found here is a guess about the text: what
+//! becomes of it is read and compared before it counts.
 
 use std::alloc::{AllocError, Global};
 
@@ -133,6 +133,34 @@ fn value_start(line: &str, key: &str) -> Option<usize> {
     )
 }
 
+// How many of these bytes, from the front on, are this quote.
+fn quotes_at(bytes: &[u8], quote: u8) -> usize {
+    bytes.iter().take_while(|byte| **byte == quote).count()
+}
+
+// How many quotes open a text that begins with so many of them: three, or one. Of two the second one closes it.
+fn opening(quotes: usize) -> usize {
+    if quotes >= 3 { 3 } else { 1 }
+}
+
+// The place after the text in quotes that begins at the front, if so many quotes close it in this line. More quotes that
+// follow belong to it, as TOML has it.
+fn closed_at(bytes: &[u8], quote: u8, opening: usize) -> Option<usize> {
+    let mut is_escaped = false;
+    for (place, byte) in bytes.iter().enumerate().skip(opening) {
+        if *byte == b'\n' {
+            return None;
+        }
+        let quotes = quotes_at(bytes.get(place..).unwrap_or(&[]), quote);
+        if quotes >= opening && !is_escaped {
+            let closing = if opening == 1 { 1 } else { quotes };
+            return Some(place.saturating_add(closing));
+        }
+        is_escaped = !is_escaped && quote == b'"' && *byte == b'\\';
+    }
+    None
+}
+
 // How many bytes a text in quotes has that stands at the front; none if it goes on in the next line, or has none.
 fn quoted_len(text: &str) -> Option<usize> {
     let bytes = text.as_bytes();
@@ -140,17 +168,7 @@ fn quoted_len(text: &str) -> Option<usize> {
     if quote != b'"' && quote != b'\'' {
         return None;
     }
-    let mut is_escaped = false;
-    for (place, byte) in bytes.iter().enumerate().skip(1) {
-        if *byte == b'\n' {
-            return None;
-        }
-        if *byte == quote && !is_escaped {
-            return Some(place.saturating_add(1));
-        }
-        is_escaped = !is_escaped && quote == b'"' && *byte == b'\\';
-    }
-    None
+    closed_at(bytes, quote, opening(quotes_at(bytes, quote)))
 }
 
 // Where the text in quotes stands that a line has at this key, counted from the front of the line.

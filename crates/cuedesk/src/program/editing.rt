@@ -32,8 +32,8 @@ fn beside(alloc: Global, path: &str) -> Result<Beside, AllocError> {
     })
 }
 
-// Makes a file anew with this text, which is on the disk then, and lets those read and write it who may do so with the show
-// file. A link or a pipe that stands there is removed, and never followed or opened.
+// Makes a file anew with this text, which is on the disk then, and lets those read and write it who may do so with the
+// show file. A link or a pipe that stands there is removed, and never followed or opened.
 fn make_anew<R: Files<File = File>>(rt: &R, path: &str, text: &str, show: &str) -> io::Result<()> {
     match fs::remove_file(rt, path) {
         Ok(()) => {}
@@ -49,8 +49,8 @@ fn make_anew<R: Files<File = File>>(rt: &R, path: &str, text: &str, show: &str) 
     file.sync_all()
 }
 
-// Has the show file hold a new text, and the file beside it the one before. At each moment both are whole; a stop between
-// the two steps leaves the show file as it was.
+// Has the show file hold a new text, and the file beside it the one before. At each moment both are whole; a stop
+// between the two steps leaves the show file as it was.
 fn keep_both<R: Files<File = File> + AllocGlobal>(
     rt: &R,
     path: &str,
@@ -196,8 +196,8 @@ fn undo<R: Files<File = File> + Eprint + AllocGlobal, W: Write>(
     }
 }
 
-/// The command `edit`: one change of a show file that has no mistake, or the last one back. A change that cannot be ends
-/// it with status 1, and one that cannot be written with 3; the file then stays as it is.
+/// The command `edit`: one change of a show file that has no mistake, or the last one back. A change that cannot be
+/// ends it with status 1, and one that cannot be written with 3; the file then stays as it is.
 pub fn edit_file<R: Files<File = File> + Eprint + AllocGlobal, W: Write>(
     rt: &R,
     path: &str,

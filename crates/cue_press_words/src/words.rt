@@ -1,4 +1,8 @@
 //! Wishes, keys and presses in words, and why nothing is pressed.
+ghost use Rattle.std.specs.Prelude.{◌≡◌, IfOk, string_bytes};
+ghost use Rattle.cue_press_words.specs.Words as words;
+ghost use Rattle.cue_press_words.specs.Words.{IsTrouble};
+
 use cue_board::{alarm_words, with_words};
 use cue_exchange::{Answer, Answers, Stage};
 use cue_presses::{Intent, Key, Spoken, Why};
@@ -10,7 +14,9 @@ use std::alloc::{AllocError, Global};
 use std::fmt::Write as _;
 
 /// A key in words, as `note 62`.
-pub fn key_words(alloc: Global, key: Key) -> Result<String, AllocError> {
+pub fn key_words(alloc: Global, key: Key) -> Result<String, AllocError>
+    ensures { IfOk result (λ text. string_bytes text ≡ words.key_words key) }
+{
     match key {
         Key::Note(note) => format!(in alloc; "note {note}"),
         Key::Controller(number) => format!(in alloc; "controller {number}"),
@@ -18,10 +24,12 @@ pub fn key_words(alloc: Global, key: Key) -> Result<String, AllocError> {
 }
 
 // A word, and the cue that stands after it, if one does.
-fn named_words(alloc: Global, word: &str, cue: Option<CueNo>) -> Result<String, AllocError> {
+fn named_words(alloc: Global, word: &str, cue: Option<CueNo>) -> Result<String, AllocError>
+    ensures { IfOk result (λ text. string_bytes text ≡ words.named_words word.now cue) }
+{
     match cue {
         Some(cue) => {
-            let cue = cue.text().escape_ascii();
+            let cue = cue_text(&cue);
             format!(in alloc; "{word} of cue {cue}")
         }
         None => String::from_str(alloc, word),
@@ -29,7 +37,9 @@ fn named_words(alloc: Global, word: &str, cue: Option<CueNo>) -> Result<String, 
 }
 
 /// An intent in words, as `GO of cue 12`.
-pub fn intent_words(alloc: Global, intent: &Intent) -> Result<String, AllocError> {
+pub fn intent_words(alloc: Global, intent: &Intent) -> Result<String, AllocError>
+    ensures { IfOk result (λ text. string_bytes text ≡ words.intent_words intent.now) }
+{
     match intent {
         Intent::Standby(cue) => named_words(alloc, "STANDBY", *cue),
         Intent::Go(cue) => named_words(alloc, "GO", *cue),
@@ -38,14 +48,18 @@ pub fn intent_words(alloc: Global, intent: &Intent) -> Result<String, AllocError
 }
 
 // STANDBY of a cue, with those that stand by together with it.
-fn standby_words(alloc: Global, cue: CueNo, groups: &[Group]) -> Result<String, AllocError> {
+fn standby_words(alloc: Global, cue: CueNo, groups: &[Group]) -> Result<String, AllocError>
+    ensures { IfOk result (λ text. string_bytes text ≡ words.standby_words groups.now cue) }
+{
     let with = with_words(alloc, others_of(groups, cue))?;
-    let (cue, with) = (cue.text().escape_ascii(), with.as_str());
+    let (cue, with) = (cue_text(&cue), with.as_str());
     format!(in alloc; "STANDBY of cue {cue}{with}")
 }
 
 /// A button in words, as `GO of cue 12`. These cues are stood by together.
-pub fn button_words(alloc: Global, button: Button, groups: &[Group]) -> Result<String, AllocError> {
+pub fn button_words(alloc: Global, button: Button, groups: &[Group]) -> Result<String, AllocError>
+    ensures { IfOk result (λ text. string_bytes text ≡ words.button_words groups.now button) }
+{
     match button {
         Button::Standby(cue) => standby_words(alloc, cue, groups),
         Button::Go(cue, _) => named_words(alloc, "GO", Some(cue)),
@@ -61,7 +75,9 @@ pub fn button_words(alloc: Global, button: Button, groups: &[Group]) -> Result<S
 }
 
 // Whether the alarm says that nothing is lit.
-fn is_dark(alarm: &Alarm) -> bool {
+fn is_dark(alarm: &Alarm) -> bool
+    ensures { result ≡ words.is_dark alarm.now }
+{
     match alarm {
         Alarm::NobodyListens | Alarm::Silent(_) | Alarm::OtherStore(_) => true,
         Alarm::Unread(_) | Alarm::Old(_) => true,
@@ -70,14 +86,35 @@ fn is_dark(alarm: &Alarm) -> bool {
     }
 }
 
-/// Why no button of the view is lit, if that is so. `port` is that of the controller.
-pub fn trouble_words(alloc: Global, view: &View, port: u16) -> Result<Option<String>, AllocError> {
-    for alarm in &view.alarms {
-        if is_dark(alarm) {
-            return Ok(Some(alarm_words(alloc, *alarm, view.at, port)?));
-        }
+// The first of the alarms that says that nothing is lit.
+fn first_dark(alarms: &[Alarm]) -> Option<Alarm>
+    ensures { result ≡ words.first_dark alarms.now }
+{
+    match alarms {
+        [] => None,
+        [alarm, others @ ..] => if is_dark(alarm) {
+            Some(*alarm)
+        } else {
+            first_dark(others)
+        },
     }
-    Ok(None)
+}
+
+/// The alarm by which no button of the view is lit, if there is one: the loudest.
+pub fn trouble_of(view: &View) -> Option<Alarm>
+    ensures { result ≡ words.trouble_of view.now }
+{
+    first_dark(&view.alarms)
+}
+
+/// Why no button of the view is lit, if that is so. `port` is that of the controller.
+pub fn trouble_words(alloc: Global, view: &View, port: u16) -> Result<Option<String>, AllocError>
+    ensures { IfOk result (λ said. IsTrouble (words.trouble_of view.now) port view.now.at said) }
+{
+    match trouble_of(view) {
+        Some(alarm) => Ok(Some(alarm_words(alloc, alarm, view.at, port)?)),
+        None => Ok(None),
+    }
 }
 
 // The numbers of the devices that are waited for, with commas.

@@ -1,0 +1,4 @@
+pub mod LawLemmas
+pub mod LineLemmas
+pub mod PanelLemmas
+pub mod WishLemmas

@@ -1,0 +1,14 @@
+pub mod Dropped
+pub mod Laws
+pub mod Lines
+pub mod Listening
+pub mod Lit
+pub mod Looking
+pub mod Outcomes
+pub mod Pending
+pub mod Playing
+pub mod Taking
+pub mod Telling
+pub mod WishLaws
+pub mod WishWords
+pub mod Wishing

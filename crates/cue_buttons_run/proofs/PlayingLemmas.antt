@@ -1,5 +1,5 @@
 -- What happens at a panel, round by round.
-use Rattle.std.proofs.Common.{◌≡◌, ◌∙◌, ◌⊎◌, refl, sym, ap, subst, inl, inr, ℕ, ◌+◌, ◌<◌, ◌≤◌, Bool, true, false, List}
+use Rattle.std.proofs.Common.{◌≡◌, ◌∙◌, refl, sym, ap, subst, inl, inr, ℕ, ◌+◌, ◌<◌, ◌≤◌, Bool, true, false, List}
 use Rattle.std.proofs.Common.{[], ◌∷◌, ◌++◌, length, get_or, map, take, append_assoc, Option, Some, None}
 use Rattle.std.proofs.Common.{Result, Ok, Err}
 use Rattle.std.specs.Prelude.{IsErr, is_ok}
@@ -7,65 +7,73 @@ use Rattle.std.proofs.lemmas.List.{take_all, take_more, map-append}
 use Rattle.cue_machine.specs.Growing.{Grew}
 use Rattle.cue_machine.proofs.LivingLemmas.{grew_both, grew_none}
 use Rattle.cue_desk_run.specs.Working.{OnlyLooks, Stays}
-use Rattle.cue_midi.specs.declared.heard.Heard.{Heard}
-use Rattle.cue_midi.specs.Stream.{HearsAt, KeepsAt}
+use Rattle.cue_panel.specs.Playing.{HearsByte, IsOpened, Undoes, begun_at, hand_if, strike_if}
+use Rattle.cue_panel.specs.declared.player.Player.{Player}
+use Rattle.cue_panel.specs.declared.taking.Strike.{Strike}
+use Rattle.cue_presses.specs.declared.hand.Hand.{Hand}
 use Rattle.cue_station.specs.declared.station.Station.{Station}
-use Rattle.cue_view.specs.declared.view.Said.{Said}
 use Rattle.cue_view.specs.declared.view.View.{View}
 use Rattle.cue_buttons_run.specs.Playing.{AllHappen, AllRounds, Ends, Gives, GivesAll, Goes, Happening, HasListened}
-use Rattle.cue_buttons_run.specs.Playing.{HeardAs, Hears, HearsCame, IsCut, IsOpened, IsRound, ListensAt, Opens}
-use Rattle.cue_buttons_run.specs.Playing.{Rest, RoundFrom, Rounds, Stand, TellsUndone, Undoes}
-use Rattle.cue_buttons_run.specs.Playing.{begun_at, by_hand, cut_at}
-use Rattle.cue_buttons_run.specs.Playing.{empties, gives, happen_by, happens_by, is_undone, rest, stand}
-use Rattle.cue_buttons_run.specs.Pressing.{Takes}
+use Rattle.cue_buttons_run.specs.Playing.{HeardAs, Hears, HearsCame, IsCut, IsRound, ListensAt, Opens}
+use Rattle.cue_buttons_run.specs.Playing.{Rest, RoundFrom, Rounds, Stand, cut_at}
+use Rattle.cue_buttons_run.specs.Playing.{empties, gives, happen_by, happens_by, rest, stand}
+use Rattle.cue_buttons_run.specs.Pressing.{IsPressed, Strikes}
 use Rattle.cue_buttons_run.specs.Telling.{Reading, Told, bytes_in, gave, nothing, opened, reads, silent}
 use Rattle.cue_buttons_run.specs.Telling.{told_as}
 use Rattle.cue_buttons_run.specs.declared.jack.Came.{Came}
 use Rattle.cue_buttons_run.specs.declared.jack.Came.TheVariants as came
-use Rattle.cue_buttons_run.specs.declared.player.Player.{Player}
-use Rattle.cue_buttons_run.proofs.PressLemmas.{leaves}
+use Rattle.cue_buttons_run.proofs.PressLemmas.{strikes_lost, strikes_none, strikes_pressed}
 
 -- ---- one byte
 
--- it finishes a message, and that is taken
-pub byte_given : (w : Bool) (byte : ℕ) (m : Heard) (p mid p_then : Player) (old new : Station) (v v_then : View)
-    → HearsAt p.parser byte (Some m) → KeepsAt p.parser byte mid.parser → mid.setting ≡ p.setting → mid.hand ≡ p.hand
-    → Takes w p.setting m p.hand p_then.hand old new v v_then → p_then.setting ≡ mid.setting
+strikes-at : (w : Bool) (a b : Option Strike) (h g h_then : Hand) (old new : Station) (v v_then : View) → b ≡ a → g ≡ h
+    → Strikes w a h h_then old new v v_then → Strikes w b g h_then old new v v_then
+strikes-at w a b h g h_then old new v v_then e f c =
+    subst (λ (x : Option Strike). Strikes w x g h_then old new v v_then) (sym e)
+    (subst (λ (x : Hand). Strikes w a x h_then old new v v_then) (sym f) c)
+
+-- memory ran out before anything was pressed
+pub gives_lost : {E : Type 0} (byte : ℕ) (e : E) (p p_then : Player) (old new : Station) (v v_then : View)
+    → HearsByte {E = E} byte v p p_then (Err e) → new ≡ old → v_then ≡ v → Gives false byte p p_then old new v v_then
+gives_lost byte e p p_then old new v v_then h a b =
+    record {
+      message = h.message;
+      hears = h.hears;
+      keeps = h.keeps;
+      setting = h.setting;
+      strikes = strikes_lost (strike_if p.setting p.hand v h.message) (hand_if p.setting p.hand h.message) p_then.hand
+          old new v v_then h.hand a b;
+    }
+
+-- nothing is given to be pressed
+pub gives_none : {E : Type 0} (w : Bool) (byte : ℕ) (p p_then : Player) (old new : Station) (v v_then : View)
+    → HearsByte {E = E} byte v p p_then (Ok None) → new ≡ old → v_then ≡ v → Gives w byte p p_then old new v v_then
+gives_none w byte p p_then old new v v_then h a b =
+    record {
+      message = h.message;
+      hears = h.hears;
+      keeps = h.keeps;
+      setting = h.setting;
+      strikes = strikes-at w None (strike_if p.setting p.hand v h.message) (hand_if p.setting p.hand h.message)
+          (hand_if p.setting p.hand h.message) p_then.hand old new v v_then (sym h.gives) refl
+          (strikes_none w (hand_if p.setting p.hand h.message) p_then.hand old new v v_then h.hand a b);
+    }
+
+-- what is given is pressed
+pub gives_pressed : {E : Type 0} (w : Bool) (byte : ℕ) (x : Strike) (p mid p_then : Player) (old new : Station)
+    (v v_then : View) → HearsByte {E = E} byte v p mid (Ok (Some x))
+    → IsPressed x.press mid.hand p_then.hand old new v v_then → p_then.setting ≡ mid.setting
     → p_then.parser ≡ mid.parser → Gives w byte p p_then old new v v_then
-byte_given w byte m p mid p_then old new v v_then hears keeps set hand takes same parser =
+gives_pressed w byte x p mid p_then old new v v_then h is set same =
     record {
-      message = Some m;
-      hears = hears;
-      keeps = λ past is. rw parser (keeps past is);
-      setting = same ∙ set;
-      takes = takes;
+      message = h.message;
+      hears = h.hears;
+      keeps = λ past after. rw same (h.keeps past after);
+      setting = set ∙ h.setting;
+      strikes = strikes-at w (Some x) (strike_if p.setting p.hand v h.message) mid.hand
+          (hand_if p.setting p.hand h.message) p_then.hand old new v v_then (sym h.gives) (sym h.hand)
+          (strikes_pressed w x mid.hand p_then.hand old new v v_then is);
     }
-
--- it finishes none
-pub byte_left : (w : Bool) (byte : ℕ) (p p_then : Player) (old new : Station) (v v_then : View)
-    → HearsAt p.parser byte None → KeepsAt p.parser byte p_then.parser → p_then.setting ≡ p.setting
-    → p_then.hand ≡ p.hand → new ≡ old → v_then ≡ v → Gives w byte p p_then old new v v_then
-byte_left w byte p p_then old new v v_then hears keeps set hand a b =
-    record {
-      message = None;
-      hears = hears;
-      keeps = keeps;
-      setting = set;
-      takes = leaves w p.hand p_then.hand old new v v_then hand a b;
-    }
-
--- ---- what was not carried out
-
-pub tells : (v : View) (said : Said) → (v.said ≡ Some said) ⊎ (v.before ≡ Some said) → is_undone said.became ≡ true
-    → TellsUndone v
-tells v said told undone = record { said = said; told = told; undone = undone }
-
-pub undoes_none : (p p_then : Player) (v : View) → p_then ≡ p → Undoes p p_then v
-undoes_none p p_then v e = inl e
-
-pub undoes_to : (p p_then : Player) (v : View) (passed : Option ℕ) → TellsUndone v
-    → p_then ≡ by_hand (record p.hand { passed = passed }) p → Undoes p p_then v
-undoes_to p p_then v passed told e = inr (told, passed, e)
 
 -- ---- a device is opened
 
@@ -288,8 +296,11 @@ first_cut r bytes i byte p mid p_then old between new v v_mid v_then err within 
       all = λ e. absurd cc;
       some = λ e. within;
       happens = all-then (givens (take i bytes)) (cut_at false (get_or bytes i 0)) (stand p old v)
-          (stand mid between v_mid) (stand p_then new v_then) first.happens
-          (stand p_then new v_then, subst (λ (x : ℕ). Gives false x mid p_then between new v_mid v_then) is giving, refl);
+          (stand mid between v_mid) (stand p_then new v_then) first.happens (
+            stand p_then new v_then,
+            subst (λ (x : ℕ). Gives false x mid p_then between new v_mid v_then) is giving,
+            refl,
+          );
     })
 
 -- ---- a round

@@ -1,18 +1,16 @@
 -- What is pressed at a desk.
-use Rattle.std.proofs.Common.{◌≡◌, refl, sym, subst, inl, inr, Bool, true, false, Option, None, Some}
-use Rattle.std.proofs.lemmas.Option.{none-some}
+use Rattle.std.proofs.Common.{◌≡◌, refl, ap, inl, inr, Bool, true, false, Option, None, Some}
+use Rattle.cue_panel.specs.Outcomes.{hand_after}
+use Rattle.cue_panel.specs.Playing.{by_hand}
+use Rattle.cue_panel.specs.declared.outcome.Outcome.{Outcome}
+use Rattle.cue_panel.specs.declared.outcome.Outcome.TheVariants as outcome
+use Rattle.cue_panel.specs.declared.player.Player.{Player}
+use Rattle.cue_panel.specs.declared.taking.Strike.{Strike}
 use Rattle.cue_presses.specs.declared.hand.Hand.{Hand}
-use Rattle.cue_presses.specs.declared.hand.Struck.{Struck}
-use Rattle.cue_presses.specs.declared.hand.Struck.TheVariants as struck
-use Rattle.cue_presses.specs.declared.intent.Intent.{Intent}
 use Rattle.cue_presses.specs.declared.pressing.Press.{Press}
-use Rattle.cue_presses.specs.Hand.{comes_of, counted}
 use Rattle.cue_station.specs.declared.station.Station.{Station}
 use Rattle.cue_view.specs.declared.view.View.{View}
-use Rattle.cue_buttons_run.specs.declared.pressing.Outcome.{Outcome}
-use Rattle.cue_buttons_run.specs.declared.pressing.Outcome.TheVariants as outcome
-use Rattle.cue_buttons_run.specs.Pressing.{AtMost, Chooses, DoesPress, Leaves, Presses, PressesButton, Strikes}
-use Rattle.cue_buttons_run.specs.Pressing.{StrikesBy, hand_after}
+use Rattle.cue_buttons_run.specs.Pressing.{Chooses, IsPressed, Presses, PressesButton, Strikes}
 
 -- the choice was heard, and then the button was pressed
 pub chosen_then : (p : Press) (r : Outcome) (old mid new : Station) (v mid_view v_then : View)
@@ -27,46 +25,27 @@ pub unchosen : (p : Press) (old new : Station) (v v_then : View) → Chooses fal
 unchosen p old new v v_then c =
     record { mid = new; mid_view = v_then; is_chosen = false; chosen = c; pressed = ((refl, refl), refl) }
 
-pub at_most_none : (p : Press) (old new : Station) (v v_then : View) → new ≡ old → v_then ≡ v
-    → AtMost p old new v v_then
-at_most_none p old new v v_then a b = inr (a, b)
+-- it is pressed, and the hand knows what came of it
+pub is_pressed : (p : Press) (r : Outcome) (q q_then : Player) (old new : Station) (v v_then : View)
+    → Presses p r old new v v_then → q_then ≡ by_hand (hand_after p r v_then q.hand) q
+    → IsPressed p q.hand q_then.hand old new v v_then
+is_pressed p r q q_then old new v v_then presses e =
+    record { outcome = r; presses = presses; hand = ap (λ (x : Player). x.hand) e }
 
--- it was pressed, and the hand knows what came of it
-pub does_press : (w : Bool) (p : Press) (r : Outcome) (h h_then : Hand) (old new : Station) (v v_then : View)
-    → Presses p r old new v v_then → h_then ≡ hand_after p r v_then h → DoesPress w p h h_then old new v v_then
-does_press true p r h h_then old new v v_then a e = record { outcome = r; presses = a; hand = e }
-does_press false p r h h_then old new v v_then a e = inl (r, a)
+-- what was given is pressed, with memory or without
+pub strikes_pressed : (w : Bool) (x : Strike) (h h_then : Hand) (old new : Station) (v v_then : View)
+    → IsPressed x.press h h_then old new v v_then → Strikes w (Some x) h h_then old new v v_then
+strikes_pressed true x h h_then old new v v_then is = is
+strikes_pressed false x h h_then old new v v_then is = inl is
 
--- nothing is pressed
-pub leaves : (w : Bool) (h h_then : Hand) (old new : Station) (v v_then : View) → h_then ≡ h → new ≡ old → v_then ≡ v
-    → Leaves w h h_then old new v v_then
-leaves true h h_then old new v v_then e a b = (e, (a, b))
-leaves false h h_then old new v v_then e a b = (a, b)
+-- nothing was given
+pub strikes_none : (w : Bool) (h h_then : Hand) (old new : Station) (v v_then : View) → h_then ≡ h → new ≡ old
+    → v_then ≡ v → Strikes w None h h_then old new v v_then
+strikes_none true h h_then old new v v_then e a b = (e, (a, b))
+strikes_none false h h_then old new v v_then e a b = (e, (a, b))
 
--- nothing is struck, since memory ran out
-strikes-none : (s : Struck) (h h_then : Hand) (old new : Station) (v v_then : View) → new ≡ old → v_then ≡ v
-    → Strikes false s h h_then old new v v_then
-strikes-none (struck.Presses p) h h_then old new v v_then a b = inr (a, b)
-strikes-none (struck.Refused w) h h_then old new v v_then a b = (a, b)
-strikes-none struck.Waited h h_then old new v v_then a b = (a, b)
-strikes-none struck.Flooded h h_then old new v v_then a b = (a, b)
-strikes-none struck.Tap h h_then old new v v_then a b = (a, b)
-
-pub strikes_none_by : (o : Option Intent) (h h_then : Hand) (old new : Station) (v v_then : View) → new ≡ old
-    → v_then ≡ v → StrikesBy false o h h_then old new v v_then
-strikes_none_by None h h_then old new v v_then a b = (a, b)
-strikes_none_by (Some i) h h_then old new v v_then a b =
-    strikes-none (comes_of h v i) (counted h) h_then old new v v_then a b
-
--- it is no key
-pub strikes_no_key : (w : Bool) (o : Option Intent) (h h_then : Hand) (old new : Station) (v v_then : View) → o ≡ None
-    → h_then ≡ h → new ≡ old → v_then ≡ v → StrikesBy w o h h_then old new v v_then
-strikes_no_key w None h h_then old new v v_then n e a b = leaves w h h_then old new v v_then e a b
-strikes_no_key w (Some i) h h_then old new v v_then n e a b = absurd (none-some i (sym n))
-
--- it is one
-pub strikes_key : (w : Bool) (o : Option Intent) (i : Intent) (h h_then : Hand) (old new : Station) (v v_then : View)
-    → o ≡ Some i → Strikes w (comes_of h v i) (counted h) h_then old new v v_then
-    → StrikesBy w o h h_then old new v v_then
-strikes_key w o i h h_then old new v v_then e strikes =
-    subst (λ (x : Option Intent). StrikesBy w x h h_then old new v v_then) (sym e) strikes
+-- memory ran out before anything was
+pub strikes_lost : (o : Option Strike) (h h_then : Hand) (old new : Station) (v v_then : View) → h_then ≡ h
+    → new ≡ old → v_then ≡ v → Strikes false o h h_then old new v v_then
+strikes_lost None h h_then old new v v_then e a b = (e, (a, b))
+strikes_lost (Some x) h h_then old new v v_then e a b = inr (e, (a, b))

@@ -5,33 +5,27 @@ use Rattle.std.proofs.lemmas.Option.{none-some}
 use Rattle.cue_desk_run.specs.Working.{HearsFor, OnlyLooks, Stays}
 use Rattle.cue_desk_run.proofs.WorkLemmas.{for_if, for_looks, for_stays, for_then}
 use Rattle.cue_midi.specs.declared.heard.Heard.{Heard}
-use Rattle.cue_midi.specs.declared.heard.Heard.TheVariants as midi
 use Rattle.cue_midi.specs.declared.parser.Parser.{Parser}
 use Rattle.cue_midi.specs.Stream.{heard_at}
-use Rattle.cue_presses.specs.declared.address.Spoken.{Spoken}
-use Rattle.cue_presses.specs.declared.address.Spoken.TheVariants as spoken
+use Rattle.cue_panel.specs.Playing.{Undoes, begun_at, hand_if, strike_if}
+use Rattle.cue_panel.specs.Taking.{strike_of, taken_of}
+use Rattle.cue_panel.specs.declared.outcome.Outcome.{Outcome}
+use Rattle.cue_panel.specs.declared.player.Player.{Player}
+use Rattle.cue_panel.specs.declared.player.Setting.{Setting}
+use Rattle.cue_panel.specs.declared.taking.Strike.{Strike}
 use Rattle.cue_presses.specs.declared.hand.Hand.{Hand}
-use Rattle.cue_presses.specs.declared.hand.Struck.{Struck}
-use Rattle.cue_presses.specs.declared.hand.Struck.TheVariants as struck
-use Rattle.cue_presses.specs.declared.intent.Intent.{Intent}
 use Rattle.cue_presses.specs.declared.pressing.Press.{Press}
-use Rattle.cue_presses.specs.Address.{spoken_to}
-use Rattle.cue_presses.specs.Hand.{after, comes_of, counted}
-use Rattle.cue_presses.specs.Keys.{intent_of}
 use Rattle.cue_station.specs.declared.station.Station.{Station}
 use Rattle.cue_view.specs.declared.button.Button.{Button}
 use Rattle.cue_view.specs.declared.button.Button.TheVariants as button
 use Rattle.cue_view.specs.declared.view.View.{View}
 use Rattle.cue_buttons_run.specs.Playing.{AllHappen, AllRounds, Ends, Goes, Happening, Happens, HasListened, Hears}
-use Rattle.cue_buttons_run.specs.Playing.{IsRound, Listens, OpensIf, Rest, Rounds, Stand, TakesIf, Undoes, begun_at}
+use Rattle.cue_buttons_run.specs.Playing.{IsRound, Listens, OpensIf, Rest, Rounds, Stand}
 use Rattle.cue_buttons_run.specs.Playing.{empties, gives, rest, stand}
 use Rattle.cue_buttons_run.specs.Telling.{Told}
-use Rattle.cue_buttons_run.specs.Pressing.{AtMost, Chooses, DoesPress, HasHeard, IsOfPress, IsStruck}
-use Rattle.cue_buttons_run.specs.Pressing.{Leaves, MeansBy, Means, MeansSpoken, OnlyStruck, Presses, PressesIf}
-use Rattle.cue_buttons_run.specs.Pressing.{StillHears, Strikes, StrikesBy, StrikesSpoken, Takes}
-use Rattle.cue_buttons_run.specs.declared.player.Player.{Player}
-use Rattle.cue_buttons_run.specs.declared.player.Setting.{Setting}
-use Rattle.cue_buttons_run.specs.declared.pressing.Outcome.{Outcome}
+use Rattle.cue_buttons_run.specs.Pressing.{Chooses, HasHeard, IsOfPress, IsPressed, IsStruck, Means}
+use Rattle.cue_buttons_run.specs.Pressing.{OnlyStruck, Presses}
+use Rattle.cue_buttons_run.specs.Pressing.{PressesIf, StillHears, Strikes}
 
 chooses-for : (reason : ℕ → Button → Type 0) (p : Press) (o : Option ℕ) → p.choose ≡ o → (is_heard : Bool)
     (old new : Station) (v v_then : View) → ((view : ℕ) (b : Button) → IsOfPress p v view b → reason view b)
@@ -63,61 +57,23 @@ presses-for reason p r old new v v_then why c =
     (presses-if-for reason p r c.is_chosen c.mid new v c.mid_view v_then
     (same-view p p.choose refl c.is_chosen old c.mid v c.mid_view c.chosen) why c.pressed)
 
-at-most-for : (reason : ℕ → Button → Type 0) (p : Press) (old new : Station) (v v_then : View)
-    → ((view : ℕ) (b : Button) → IsOfPress p v view b → reason view b) → AtMost p old new v v_then
-    → HearsFor reason old new
-at-most-for reason p old new v v_then why (inl c) = presses-for reason p c.0 old new v v_then why c.1
-at-most-for reason p old new v v_then why (inr stays) = for_stays reason old new v v_then stays
-
 -- so it is pressed, or left, with memory or without
-does-press-for : (reason : ℕ → Button → Type 0) (w : Bool) (p : Press) (h h_then : Hand) (old new : Station)
-    (v v_then : View) → ((view : ℕ) (b : Button) → IsOfPress p v view b → reason view b)
-    → DoesPress w p h h_then old new v v_then → HearsFor reason old new
-does-press-for reason true p h h_then old new v v_then why c =
-    presses-for reason p c.outcome old new v v_then why c.presses
-does-press-for reason false p h h_then old new v v_then why c = at-most-for reason p old new v v_then why c
+pressed-for : (reason : ℕ → Button → Type 0) (p : Press) (h h_then : Hand) (old new : Station) (v v_then : View)
+    → ((view : ℕ) (b : Button) → IsOfPress p v view b → reason view b)
+    → IsPressed p h h_then old new v v_then → HearsFor reason old new
+pressed-for reason p h h_then old new v v_then why c = presses-for reason p c.outcome old new v v_then why c.presses
 
-leaves-for : (reason : ℕ → Button → Type 0) (w : Bool) (h h_then : Hand) (old new : Station) (v v_then : View)
-    → Leaves w h h_then old new v v_then → HearsFor reason old new
-leaves-for reason true h h_then old new v v_then c = for_stays reason old new v v_then c.1
-leaves-for reason false h h_then old new v v_then c = for_stays reason old new v v_then c
-
-strikes-for : (reason : ℕ → Button → Type 0) (w : Bool) (s : Struck) (h h_then : Hand) (old new : Station)
+strikes-for : (reason : ℕ → Button → Type 0) (w : Bool) (o : Option Strike) (h h_then : Hand) (old new : Station)
     (v v_then : View)
-    → ((p : Press) → s ≡ struck.Presses p → (view : ℕ) (b : Button) → IsOfPress p v view b → reason view b)
-    → Strikes w s h h_then old new v v_then → HearsFor reason old new
-strikes-for reason w (struck.Presses p) h h_then old new v v_then why c =
-    does-press-for reason w p h h_then old new v v_then (why p refl) c
-strikes-for reason w (struck.Refused r) h h_then old new v v_then why c =
-    leaves-for reason w h h_then old new v v_then c
-strikes-for reason w struck.Waited h h_then old new v v_then why c = leaves-for reason w h h_then old new v v_then c
-strikes-for reason w struck.Flooded h h_then old new v v_then why c = leaves-for reason w h h_then old new v v_then c
-strikes-for reason w struck.Tap h h_then old new v v_then why c = leaves-for reason w h h_then old new v v_then c
-
-spoken-for : (reason : ℕ → Button → Type 0) (w : Bool) (sp : Spoken) (h h_then : Hand) (old new : Station)
-    (v v_then : View)
-    → ((p : Press) → MeansSpoken sp h v p → (view : ℕ) (b : Button) → IsOfPress p v view b → reason view b)
-    → StrikesSpoken w sp h h_then old new v v_then → HearsFor reason old new
-spoken-for reason w (spoken.Intent i) h h_then old new v v_then why c =
-    strikes-for reason w (comes_of h v i) (counted h) h_then old new v v_then why c
-spoken-for reason w spoken.Elsewhere h h_then old new v v_then why c =
-    leaves-for reason w h h_then old new v v_then c
-spoken-for reason w (spoken.OtherCommand n) h h_then old new v v_then why c =
-    leaves-for reason w (counted h) h_then old new v v_then c
-spoken-for reason w spoken.NoCue h h_then old new v v_then why c =
-    leaves-for reason w (counted h) h_then old new v v_then c
-spoken-for reason w spoken.OtherList h h_then old new v v_then why c =
-    leaves-for reason w (counted h) h_then old new v v_then c
-spoken-for reason w spoken.Unfit h h_then old new v v_then why c =
-    leaves-for reason w (counted h) h_then old new v v_then c
-
-by-for : (reason : ℕ → Button → Type 0) (w : Bool) (o : Option Intent) (h h_then : Hand) (old new : Station)
-    (v v_then : View)
-    → ((p : Press) → MeansBy o h v p → (view : ℕ) (b : Button) → IsOfPress p v view b → reason view b)
-    → StrikesBy w o h h_then old new v v_then → HearsFor reason old new
-by-for reason w (Some i) h h_then old new v v_then why c =
-    strikes-for reason w (comes_of h v i) (counted h) h_then old new v v_then why c
-by-for reason w None h h_then old new v v_then why c = leaves-for reason w h h_then old new v v_then c
+    → ((x : Strike) → o ≡ Some x → (view : ℕ) (b : Button) → IsOfPress x.press v view b → reason view b)
+    → Strikes w o h h_then old new v v_then → HearsFor reason old new
+strikes-for reason true (Some x) h h_then old new v v_then why c =
+    pressed-for reason x.press h h_then old new v v_then (why x refl) c
+strikes-for reason false (Some x) h h_then old new v v_then why (inl c) =
+    pressed-for reason x.press h h_then old new v v_then (why x refl) c
+strikes-for reason false (Some x) h h_then old new v v_then why (inr c) = for_stays reason old new v v_then c.1
+strikes-for reason true None h h_then old new v v_then why c = for_stays reason old new v v_then c.1
+strikes-for reason false None h h_then old new v v_then why c = for_stays reason old new v v_then c.1
 
 struck-why : (s : Setting) (past : List ℕ) (byte : ℕ) (h : Hand) (m : Heard) (v : View) (p : Press)
     → heard_at past byte ≡ Some m → Means s h m v p → (view : ℕ) (b : Button) → IsOfPress p v view b → IsStruck s view b
@@ -128,32 +84,15 @@ struck-why s past byte h m v p spells means view b is =
       struck = record { message = m; spells = spells; hand = h; shown = v; press = p; means = means; is = is };
     }
 
--- what one message lets the desk hear was struck
-takes-for : (w : Bool) (s : Setting) (past : List ℕ) (byte : ℕ) (m : Heard) → heard_at past byte ≡ Some m
-    → (h h_then : Hand) (old new : Station) (v v_then : View) → Takes w s m h h_then old new v v_then
-    → HearsFor (IsStruck s) old new
-takes-for w s past byte (midi.NoteOn channel note velocity) spells h h_then old new v v_then c =
-    let m : Heard = midi.NoteOn channel note velocity in
-    by-for (IsStruck s) w (intent_of s.keys h.pedals m) (after s.keys m h) h_then old new v v_then
-    (λ p means. struck-why s past byte h m v p spells means) c
-takes-for w s past byte (midi.Controller channel number value) spells h h_then old new v v_then c =
-    let m : Heard = midi.Controller channel number value in
-    by-for (IsStruck s) w (intent_of s.keys h.pedals m) (after s.keys m h) h_then old new v v_then
-    (λ p means. struck-why s past byte h m v p spells means) c
-takes-for w s past byte (midi.Show show) spells h h_then old new v v_then c =
-    spoken-for (IsStruck s) w (spoken_to s.address show) h h_then old new v v_then
-    (λ p means. struck-why s past byte h (midi.Show show) v p spells means) c
-takes-for w s past byte (midi.Ignored kind) spells h h_then old new v v_then c =
-    by-for (IsStruck s) w (intent_of s.keys h.pedals (midi.Ignored kind)) (after s.keys (midi.Ignored kind) h) h_then
-    old new v v_then (λ p means. struck-why s past byte h (midi.Ignored kind) v p spells means) c
-
-takes-if-for : (w : Bool) (s : Setting) (past : List ℕ) (byte : ℕ) (o : Option Heard) → heard_at past byte ≡ o
-    → (h h_then : Hand) (old new : Station) (v v_then : View) → TakesIf w s o h h_then old new v v_then
-    → HearsFor (IsStruck s) old new
-takes-if-for w s past byte (Some m) spells h h_then old new v v_then c =
-    takes-for w s past byte m spells h h_then old new v v_then c
-takes-if-for w s past byte None spells h h_then old new v v_then c =
-    leaves-for (IsStruck s) w h h_then old new v v_then c
+-- what a byte lets the desk hear was struck
+gives-for : (w : Bool) (s : Setting) (past : List ℕ) (byte : ℕ) (o : Option Heard) → heard_at past byte ≡ o
+    → (h h_mid h_then : Hand) (old new : Station) (v v_then : View)
+    → Strikes w (strike_if s h v o) h_mid h_then old new v v_then → HearsFor (IsStruck s) old new
+gives-for w s past byte (Some m) spells h h_mid h_then old new v v_then c =
+    strikes-for (IsStruck s) w (strike_of (taken_of s h v m)) h_mid h_then old new v v_then
+    (λ x e. struck-why s past byte h m v x.press spells (record { strike = x; struck = e; press = refl })) c
+gives-for w s past byte None spells h h_mid h_then old new v v_then c =
+    strikes-for (IsStruck s) w None h_mid h_then old new v v_then (λ x e. absurd (none-some x e)) c
 
 -- ---- one thing after the other
 
@@ -184,8 +123,8 @@ struck-one empties a b c =
 struck-one (gives w byte) a b c =
     record {
       struck = λ has.
-          takes-if-for w a.player.setting has.past byte c.message (sym (c.hears has.past has.after)) a.player.hand
-          b.player.hand a.station b.station a.view b.view c.takes;
+          gives-for w a.player.setting has.past byte c.message (sym (c.hears has.past has.after)) a.player.hand
+          (hand_if a.player.setting a.player.hand c.message) b.player.hand a.station b.station a.view b.view c.strikes;
       parser = record { still = λ has. record { past = byte ∷ has.past; after = c.keeps has.past has.after } };
       setting = c.setting;
     }
@@ -290,7 +229,8 @@ ends-struck : (w : Bool) (a b : Rest) → Ends w a b
 ends-struck true a b e = rest-same a b e
 ends-struck false a b (inl e) = rest-same a b e
 ends-struck false a b (inr r) =
-    failed-struck a.told b.told a.stand.player b.stand.player a.stand.station b.stand.station a.stand.view b.stand.view r
+    failed-struck a.told b.told a.stand.player b.stand.player a.stand.station b.stand.station a.stand.view
+    b.stand.view r
 
 -- a panel that went on so has pressed what was struck
 pub goes_struck : (w : Bool) (t t_then : Option (List Told)) (p p_then : Player) (old new : Station) (v v_then : View)

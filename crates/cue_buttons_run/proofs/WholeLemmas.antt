@@ -10,7 +10,7 @@ use Rattle.cue_buttons_run.specs.Playing.{empties, gives, happen_by}
 use Rattle.cue_buttons_run.specs.Playing.{happens_by, rest}
 use Rattle.cue_buttons_run.specs.Telling.{Reading, Told, bytes_of, gave, nothing, opened, opened_if, reads, silent}
 use Rattle.cue_buttons_run.specs.Whole.{HearsAll, bytes_heard, bytes_told, happened_in}
-use Rattle.cue_buttons_run.specs.declared.player.Player.{Player}
+use Rattle.cue_panel.specs.declared.player.Player.{Player}
 
 -- ---- bytes
 

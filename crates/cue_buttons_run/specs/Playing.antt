@@ -1,37 +1,21 @@
 -- What happens at a panel, round by round, and how it stands then: in between nothing is forgotten.
 use Rattle.std.specs.Prelude.{◌≡◌, ◌≤◌, ◌<◌, ◌⊎◌, ℕ, Bool, true, false, List, [], ◌∷◌, ◌++◌, map, take, get_or, length}
-use Rattle.std.specs.Prelude.{Option, None, Some}
+use Rattle.std.specs.Prelude.{Option}
 use Rattle.cue_machine.specs.Growing.{Grew}
 use Rattle.cue_desk_run.specs.Working.{OnlyLooks, Stays}
 use Rattle.cue_midi.specs.declared.heard.Heard.{Heard}
-use Rattle.cue_midi.specs.Stream.{HearsAt, IsAfter, KeepsAt}
-use Rattle.cue_presses.specs.declared.hand.Hand.{Hand}
-use Rattle.cue_presses.specs.Hand.{begun, emptied, opened_at}
-use Rattle.cue_presses.specs.Settling as settling
+use Rattle.cue_midi.specs.Stream.{HearsAt, KeepsAt}
+use Rattle.cue_panel.specs.Playing.{IsOpened, Undoes, begun_at, by_hand, hand_if, strike_if}
+use Rattle.cue_panel.specs.declared.player.Player.{Player}
+use Rattle.cue_presses.specs.Hand.{emptied}
 use Rattle.cue_station.specs.declared.station.Station.{Station}
-use Rattle.cue_view.specs.declared.view.Became.{Became}
-use Rattle.cue_view.specs.declared.view.Became.TheVariants as became
-use Rattle.cue_view.specs.declared.view.Said.{Said}
 use Rattle.cue_view.specs.declared.view.View.{View}
-use Rattle.cue_buttons_run.specs.Pressing.{Leaves, Takes}
+use Rattle.cue_buttons_run.specs.Pressing.{Strikes}
 use Rattle.cue_buttons_run.specs.Telling.{Reading, Told, bytes_in, gave, nothing, opened_if, reads, silent}
 use Rattle.cue_buttons_run.specs.declared.jack.Came.{Came}
 use Rattle.cue_buttons_run.specs.declared.jack.Came.TheVariants as came
-use Rattle.cue_buttons_run.specs.declared.player.Player.{Player}
-use Rattle.cue_buttons_run.specs.declared.player.Setting.{Setting}
 
--- ---- who plays
-
--- the same, with this hand
-abbrev pub by_hand : Hand → Player → Player
-by_hand h p = record p { hand = h }
-
--- A device is opened at this moment: no byte of it was heard, of its controllers nothing is known, and it settles. A GO
--- that was sent stays known.
-pub record IsOpened (now : ℕ) (p p_then : Player) : Type 0 where
-  pub setting : p_then.setting ≡ p.setting
-  pub hand : p_then.hand ≡ opened_at now p.hand
-  pub parser : IsAfter [] p_then.parser
+-- ---- a device is opened
 
 -- if it is opened at all
 abbrev pub OpensIf : Bool → ℕ → (p p_then : Player) → Type 0
@@ -43,51 +27,17 @@ abbrev pub Opens : ℕ → (told told_then : Option (List Told)) → (p p_then :
 Opens now told told_then p p_then =
     (is_opened : Bool) × Grew told (opened_if is_opened) told_then × OpensIf is_opened now p p_then
 
--- what is read may press: nothing of it waited in the device
-abbrev pub is_settled : Player → Bool
-is_settled p = settling.is_over p.hand.settling
-
--- a round begins at this moment
-abbrev pub begun_at : ℕ → Player → Player
-begun_at now p = by_hand (begun now p.hand) p
-
--- ---- what was not carried out
-
--- a press was not carried out, and never will be
-abbrev pub is_undone : Became → Bool
-is_undone (became.Refused code) = true
-is_undone became.Nobody = true
-is_undone became.Lost = true
-is_undone _ = false
-
--- a view says so of the last press, or of the one before it
-pub record TellsUndone (v : View) : Type 0 where
-  pub said : Said
-  pub told : (v.said ≡ Some said) ⊎ (v.before ≡ Some said)
-  pub undone : is_undone said.became ≡ true
-
--- Where a view says that a press was not carried out, another number may count as passed: which one, this does not say.
--- Nothing else is changed.
-abbrev pub Undoes : (p p_then : Player) → View → Type 0
-Undoes p p_then v = (p_then ≡ p) ⊎ (TellsUndone v × (passed : Option ℕ)
-    × (p_then ≡ by_hand (record p.hand { passed = passed }) p))
-
 -- ---- a byte
 
--- what the byte finishes is taken
-abbrev pub TakesIf : Bool → Setting → Option Heard → (h h_then : Hand) → (old new : Station) → (v v_then : View)
-    → Type 0
-TakesIf w s (Some m) h h_then old new v v_then = Takes w s m h h_then old new v v_then
-TakesIf w s None h h_then old new v v_then = Leaves w h h_then old new v v_then
-
--- The device gives a byte: what that finishes is taken by the hand as it stands. What it finishes is said by the bytes
--- before it, whichever the parser has heard.
+-- The device gives a byte: what that finishes is taken by the hand as it stands, and what it means is pressed. What it
+-- finishes is said by the bytes before it, whichever the parser has heard.
 pub record Gives (w : Bool) (byte : ℕ) (p p_then : Player) (old new : Station) (v v_then : View) : Type 0 where
   pub message : Option Heard
   pub hears : HearsAt p.parser byte message
   pub keeps : KeepsAt p.parser byte p_then.parser
   pub setting : p_then.setting ≡ p.setting
-  pub takes : TakesIf w p.setting message p.hand p_then.hand old new v v_then
+  pub strikes : Strikes w (strike_if p.setting p.hand v message) (hand_if p.setting p.hand message) p_then.hand old new
+      v v_then
 
 -- ---- one thing after the other
 

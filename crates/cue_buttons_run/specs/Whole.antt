@@ -5,7 +5,7 @@ use Rattle.cue_station.specs.declared.station.Station.{Station}
 use Rattle.cue_view.specs.declared.view.View.{View}
 use Rattle.cue_buttons_run.specs.Playing.{AllRounds, Goes, Happening, Rest, empties, gives, rest}
 use Rattle.cue_buttons_run.specs.Telling.{Told, bytes_of, opened, reads}
-use Rattle.cue_buttons_run.specs.declared.player.Player.{Player}
+use Rattle.cue_panel.specs.declared.player.Player.{Player}
 
 -- the bytes that were told, in order
 abbrev pub bytes_told : List Told → List ℕ

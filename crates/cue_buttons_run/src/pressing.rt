@@ -1,25 +1,14 @@
 //! A press at a desk without a browser.
 ghost use Rattle.std.specs.Prelude.{◌≡◌};
-ghost use Rattle.cue_buttons_run.specs.Pressing.{Chooses, Presses, PressesButton, PressesOne, outcome_of};
+ghost use Rattle.cue_buttons_run.specs.Pressing.{Chooses, Presses, PressesButton, PressesOne};
 
 use cue_desk_run::Desk;
+use cue_panel::{Outcome, outcome_of};
 use cue_presses::Press;
 use cue_view::button::Button;
-use cue_view::view::{Unsent, View};
 use std::fs::{File, Files};
 use std::net::Net;
 use std::time::Clock;
-
-/// What comes of a press at once.
-#[derive(Clone, Copy, PartialEq, Eq, Debug)]
-pub enum Outcome {
-    /// Its message is sent, with this ask: the view says what became of it.
-    Sent(u64),
-    /// Nothing is sent.
-    Unsent(Unsent),
-    /// Memory ran out: nothing is sent.
-    Unheard,
-}
 
 // Presses one button of the newest view. Answers whether that was heard.
 fn press_one<R: Files<File = File> + Net + Clock + AllocGlobal>(
@@ -30,17 +19,6 @@ fn press_one<R: Files<File = File> + Net + Clock + AllocGlobal>(
 {
     let number = desk.view().number;
     desk.press(number, button)
-}
-
-// What the view says of the press that was heard last.
-fn outcome_of(view: &View) -> Outcome
-    ensures { result ≡ outcome_of view.now }
-{
-    match (view.unsent, view.said) {
-        (Some(unsent), _) => Outcome::Unsent(unsent),
-        (None, Some(said)) => Outcome::Sent(said.ask),
-        (None, None) => Outcome::Unsent(Unsent::Dark),
-    }
 }
 
 // Chooses this attempt, if there is one to choose. Answers whether that was heard.

@@ -1,4 +1,7 @@
 //! What a show file says of a rehearsal, in its table `[rehearse]`.
+ghost use Rattle.std.specs.Prelude.{◌≡◌};
+ghost use Rattle.std.specs.Fmt.{WritesOnOk};
+ghost use Rattle.cue_rehearsal.specs.Plans as plans;
 
 use crate::manner::{Behaviour, Manner};
 use cue_show::DeviceNo;
@@ -55,35 +58,53 @@ impl From<AllocError> for PlanFault {
     }
 }
 
+// Writes that a key wants a time.
+fn write_wants_time<W: fmt::Write>(f: &mut fmt::Formatter<W>, key: &str) -> fmt::Result
+    ensures { WritesOnOk W.write_str_gives f.old result (plans.wants_time key.now) f.new }
+{
+    write!(
+        f,
+        "`{key}` wants milliseconds, 0 to {MAX_TIME}: write it as {key} = 800"
+    )
+}
+
+// Writes that a key wants devices.
+fn write_wants_devices<W: fmt::Write>(f: &mut fmt::Formatter<W>, key: &str) -> fmt::Result
+    ensures { WritesOnOk W.write_str_gives f.old result (plans.wants_devices key.now) f.new }
+{
+    write!(
+        f,
+        "`{key}` wants numbers of devices: write it as {key} = [3, 4]"
+    )
+}
+
 impl fmt::Display for PlanFault {
+    ghost use Rattle.std.specs.Prelude.{Some};
+    ghost use Rattle.cue_rehearsal.specs.Plans.{fault_words};
+
+    ghost output = { λ fault. Some (fault_words fault) };
+
     fn fmt<W: fmt::Write>(&self, f: &mut fmt::Formatter<W>) -> fmt::Result {
         match self {
             PlanFault::NoTable => f.write_str("it is written as one table, [rehearse]"),
-            PlanFault::UnknownKey(key) => write!(
-                f,
-                "`{}` is no key that stands here: look for a slip",
-                key.as_str()
-            ),
-            PlanFault::WantsTime(key) => write!(
-                f,
-                "`{key}` wants milliseconds, 0 to {MAX_TIME}: write it as {key} = 800"
-            ),
+            PlanFault::UnknownKey(key) => {
+                let key = key.as_str();
+                write!(f, "`{key}` is no key that stands here: look for a slip")
+            }
+            PlanFault::WantsTime(key) => write_wants_time(f, key),
             PlanFault::WantsLoss => f.write_str(
                 "`loss` wants how many of a hundred datagrams are lost: write it as loss = 10",
             ),
-            PlanFault::WantsDevices(key) => {
-                write!(
-                    f,
-                    "`{key}` wants numbers of devices: write it as {key} = [3, 4]"
-                )
-            }
+            PlanFault::WantsDevices(key) => write_wants_devices(f, key),
             PlanFault::Memory => f.write_str("out of memory"),
         }
     }
 }
 
-// Whether the device is among these.
-fn has(devices: &[DeviceNo], device: DeviceNo) -> bool {
+/// Whether the device is one of these.
+pub fn is_among(device: DeviceNo, devices: &[DeviceNo]) -> bool
+    ensures { result ≡ plans.is_among device devices.now }
+{
     devices.iter().any(|named| *named == device)
 }
 
@@ -102,12 +123,14 @@ impl Plan {
     }
 
     /// What becomes of a device. One that is in several lists is silent first, and else refuses.
-    pub fn behaviour_of(&self, device: DeviceNo) -> Behaviour {
-        if has(&self.silent, device) {
+    pub fn behaviour_of(&self, device: DeviceNo) -> Behaviour
+        ensures { result ≡ plans.behaviour_of self.now device }
+    {
+        if is_among(device, &self.silent) {
             Behaviour::Silent
-        } else if has(&self.refuses, device) {
+        } else if is_among(device, &self.refuses) {
             Behaviour::Refuses
-        } else if has(&self.fails, device) {
+        } else if is_among(device, &self.fails) {
             Behaviour::Fails
         } else {
             Behaviour::Plays
@@ -115,7 +138,9 @@ impl Plan {
     }
 
     /// How the machine of a device behaves.
-    pub fn manner_of(&self, device: DeviceNo) -> Manner {
+    pub fn manner_of(&self, device: DeviceNo) -> Manner
+        ensures { result ≡ plans.manner_of self.now device }
+    {
         Manner {
             prepare: self.prepare,
             moving: self.moving,

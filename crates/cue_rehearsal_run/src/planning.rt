@@ -1,29 +1,42 @@
-//! The plan of a rehearsal, as a show file has it in its table `[rehearse]`.
+//! The plan of a rehearsal: what does not fit in it is said at once.
+ghost use Rattle.std.specs.Prelude.{◌≡◌, OnOk, []};
+ghost use Rattle.cue_rehearsal_plan.specs.Unknown.{unknown_devices};
+
 use cue_desk::ending::Ending;
-use cue_rehearsal::{Plan, read_plan};
-use cue_saying::say;
+use cue_rehearsal::{Plan, PlanFault, read_plan};
+use cue_rehearsal_plan::{PlanPlace, UnknownWords, fault_text, unknown_devices};
+use cue_saying::{Shown, say};
 use cue_show::DeviceNo;
 use cue_show_file::ShowFile;
-use cue_words::shown_text;
-use std::fmt::Display;
+use std::alloc::AllocError;
 use std::io::Eprint;
 use toml::Table;
 
-/// Where the table `[rehearse]` of a show file is.
-#[derive(Clone, Copy)]
-pub struct PlanPlace<'a> {
-    pub path: &'a str,
-    /// The line of its header, if it can be seen.
-    pub line: Option<usize>,
+/// Says why a table is no plan.
+pub fn say_fault<R: Eprint + AllocGlobal>(
+    rt: &R,
+    at: PlanPlace<'_>,
+    fault: &PlanFault,
+) -> Result<(), AllocError> {
+    let text = fault_text(rt.alloc(), fault)?;
+    let what = Shown {
+        text: text.as_str(),
+    };
+    let _ = rt.eprintln(format_args!("{at}: {what}"));
+    Ok(())
 }
 
-// Says what is wrong with the table.
-fn say_of_plan<R: Eprint, D: Display + Drop>(rt: &R, at: PlanPlace<'_>, what: D) {
-    let path = at.path;
-    let _ = match at.line {
-        Some(line) => rt.eprintln(format_args!("{path}:{line}: [rehearse]: {what}")),
-        None => rt.eprintln(format_args!("{path}: [rehearse]: {what}")),
-    };
+/// Says of each of these devices that the file does not have it; with the place of the plan, if it is of the file alone.
+pub fn say_unknown<R: Eprint>(rt: &R, at: Option<PlanPlace<'_>>, unknown: &[DeviceNo]) {
+    for device in unknown {
+        let what = UnknownWords { device: *device };
+        match at {
+            Some(at) => {
+                let _ = rt.eprintln(format_args!("{at}: {what}"));
+            }
+            None => say(rt, what),
+        }
+    }
 }
 
 /// The plan of a show file, of which this is all that TOML reads; else what is wrong with it is on standard error.
@@ -34,50 +47,22 @@ pub fn plan_of<R: Eprint + AllocGlobal>(
 ) -> Result<Plan, Ending> {
     match read_plan(rt.alloc(), table) {
         Ok(plan) => Ok(plan),
-        Err(why) => {
-            let words = format!(in rt.alloc(); "{why}")?;
-            say_of_plan(rt, at, shown_text(rt.alloc(), words.as_str())?.as_str());
+        Err(PlanFault::Memory) => Err(Ending::Failed),
+        Err(fault) => {
+            say_fault(rt, at, &fault)?;
             Err(Ending::Refused)
         }
     }
 }
 
-// Says that the file does not have a device which the plan names; with its line, if the plan is of the file alone.
-fn say_unknown<R: Eprint>(rt: &R, at: Option<PlanPlace<'_>>, device: DeviceNo) {
-    let number = device.number();
-    let what = format_args!("the file has no device {number} to rehearse");
-    match at {
-        Some(at) => say_of_plan(rt, at, what),
-        None => say(rt, what),
+/// Whether the file has each device that the plan names; else each that it does not have is on standard error.
+pub fn fits<R: Eprint + AllocGlobal>(rt: &R, file: &ShowFile, plan: &Plan) -> Result<(), Ending>
+    ensures { OnOk result (unknown_devices file.now plan.now ≡ []) }
+{
+    let unknown = unknown_devices(rt.alloc(), file, plan)?;
+    say_unknown(rt, None, &unknown);
+    if unknown.is_empty() {
+        return Ok(());
     }
-}
-
-// Whether each of these devices is in the file; else which one is not is on standard error.
-fn knows_all<R: Eprint>(
-    rt: &R,
-    at: Option<PlanPlace<'_>>,
-    file: &ShowFile,
-    devices: &[DeviceNo],
-) -> bool {
-    for device in devices {
-        if !file.devices.iter().any(|entry| entry.number == *device) {
-            say_unknown(rt, at, *device);
-            return false;
-        }
-    }
-    true
-}
-
-/// Whether each device that the plan names is in the file; else which one is not is on standard error, with the place
-/// of the plan if it is of the file alone.
-pub fn knows_plan<R: Eprint>(
-    rt: &R,
-    at: Option<PlanPlace<'_>>,
-    file: &ShowFile,
-    plan: &Plan,
-) -> Result<(), Ending> {
-    let known = knows_all(rt, at, file, &plan.silent)
-        && knows_all(rt, at, file, &plan.refuses)
-        && knows_all(rt, at, file, &plan.fails);
-    if known { Ok(()) } else { Err(Ending::Refused) }
+    Err(Ending::Refused)
 }

@@ -1,48 +1,30 @@
 //! The devices of a show file at their sockets.
-use cue_desk::counting::Count;
+ghost use Rattle.std.specs.Prelude.{◌≡◌, [], IfErr, IfOk, length};
+ghost use Rattle.cue_desk.specs.declared.ending.Ending.TheVariants.{Failed};
+ghost use Rattle.cue_rehearsal_plan.specs.Unknown.{unknown_devices};
+ghost use Rattle.cue_rehearsal_plan.specs.Words.{ending_of};
+ghost use Rattle.std.specs.Vec.{vec_len};
+
 use cue_desk::ending::Ending;
 use cue_edge_run::{NetEars, NetPost, bind};
-use cue_machine::{Address, Why};
+use cue_machine::Why;
 use cue_rehearsal::Plan;
 use cue_rehearsal_machine::{RehearsalMachine, Role, run};
+use cue_rehearsal_plan::{addresses_of, ending_of, plays_line, roles_of, why_words};
 use cue_saying::{print, say};
 use cue_show_file::ShowFile;
 use mio::net::UdpSocket;
-use std::alloc::{AllocError, Global};
+use std::alloc::AllocError;
 use std::fs::{File, Files};
 use std::io::{Eprint, Write};
-use std::net::{Ipv4Addr, Net};
+use std::net::Net;
 use std::time::Clock;
 
-// Who is rehearsed: each device of the file, at its port of this machine.
-fn roles_of(alloc: Global, file: &ShowFile, plan: &Plan) -> Result<Vec<Role>, AllocError> {
-    let host = Ipv4Addr::LOCALHOST.to_bits();
-    let mut roles = Vec::with_capacity(alloc, file.devices.len())?;
-    for entry in file.devices.iter() {
-        let port = entry.port;
-        roles.push(Role {
-            device: entry.number,
-            manner: plan.manner_of(entry.number),
-            address: Address { host, port },
-        })?;
-    }
-    Ok(roles)
-}
-
-// Where their sockets are, in their order.
-fn addresses_of(alloc: Global, roles: &[Role]) -> Result<Vec<Address>, AllocError> {
-    let mut addresses = Vec::with_capacity(alloc, roles.len())?;
-    for role in roles {
-        addresses.push(role.address)?;
-    }
-    Ok(addresses)
-}
-
 // A socket for each, in their order; if there is none at a port, why is on standard error.
-fn bind_all<R: Net + Eprint + AllocGlobal>(
-    rt: &R,
-    roles: &[Role],
-) -> Result<Vec<UdpSocket>, Ending> {
+fn bind_all<R: Net + Eprint + AllocGlobal>(rt: &R, roles: &[Role]) -> Result<Vec<UdpSocket>, Ending>
+    ensures one { IfOk result (λ sockets. vec_len sockets ≡ length roles.now) }
+    ensures failed { IfErr result (λ ending. ending ≡ Failed) }
+{
     let addresses = addresses_of(rt.alloc(), roles)?;
     match bind(rt, &addresses) {
         Ok(sockets) => Ok(sockets),
@@ -54,37 +36,14 @@ fn bind_all<R: Net + Eprint + AllocGlobal>(
     }
 }
 
-// Says how many devices play.
-fn say_who_plays<R: AllocGlobal, W: Write>(
-    rt: &R,
-    count: usize,
-    writer: &mut W,
-) -> Result<(), Ending> {
-    let devices = Count {
-        count,
-        what: "device",
-    };
-    let play = match count {
-        1 => "plays, at its port",
-        _ => "play, each at its port",
-    };
-    print(
-        writer,
-        format!(in rt.alloc(); "{devices} {play}; Ctrl-C ends it\n")?.as_str(),
-    )
-}
-
-// How the rehearsal ended. It is over only once a line could not be printed.
-fn ending_of<R: Eprint>(rt: &R, why: Why) -> Ending {
-    let words = match why {
-        Why::Over => return Ending::Unwritten,
-        Why::Ears => "a socket or the clock failed",
-        Why::End => "a socket or the clock failed",
-        Why::Memory => "out of memory",
-        Why::Turns => "it has had its turns",
-    };
-    say(rt, words);
-    Ending::Failed
+// How the rehearsal ended, which is said.
+fn end<R: Eprint>(rt: &R, why: Why) -> Ending
+    ensures { result ≡ ending_of why }
+{
+    if let Some(words) = why_words(why) {
+        say(rt, words);
+    }
+    ending_of(why)
 }
 
 // Plays at these sockets, until the program is ended: why it ended.
@@ -109,12 +68,14 @@ pub fn play<R: Files<File = File> + Net + Clock + Eprint + AllocGlobal, W: Write
     plan: &Plan,
     seed: u64,
     writer: &mut W,
-) -> Result<(), Ending> {
+) -> Result<(), Ending>
+    requires { unknown_devices file.now plan.now ≡ [] }
+{
     let alloc = rt.alloc();
     let roles = roles_of(alloc, file, plan)?;
     let mut sockets = bind_all(rt, &roles)?;
-    say_who_plays(rt, sockets.len(), writer)?;
+    print(writer, plays_line(alloc, sockets.len())?.as_str())?;
     let mut machine = RehearsalMachine::new(alloc, &roles, plan.loss, plan.spread, seed)?;
     let why = play_at(rt, &mut machine, &mut sockets, writer)?;
-    Err(ending_of(rt, why))
+    Err(end(rt, why))
 }

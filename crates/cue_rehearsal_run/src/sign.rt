@@ -1,33 +1,13 @@
 //! The sign that a rehearsal of a show file runs, which board and page look for: a file beside the show file, locked as
 //! long as the rehearsal runs. No program that has ended holds a lock, so the sign is never out of date.
-ghost use Rattle.std.specs.Prelude.{◌≡◌, string_bytes, IfOk};
-ghost use Rattle.cue_rehearsal_run.specs.Signs as signs;
-
+use cue_rehearsal_plan::{is_up, sign_path};
 use cue_saying::{Shown, say};
-use std::alloc::{AllocError, Global};
+use std::alloc::Global;
 use std::fs::{self, File, Files, OpenOptions, TryLockError};
 use std::io::{self, Eprint, ErrorKind};
 
 /// How often the lock is asked for: who looks at the sign holds it for a moment.
 const MAX_TRIES: u32 = 1_000;
-
-/// The file of the sign of this show file.
-pub fn sign_path(alloc: Global, show: &str) -> Result<String, AllocError>
-    ensures { IfOk result (λ path. string_bytes path ≡ signs.sign_of show.now) }
-{
-    format!(in alloc; "{show}.rehearsal")
-}
-
-// Whether a rehearsal runs, by what the lock of its sign says.
-fn is_up(answer: Result<(), TryLockError>) -> bool
-    ensures { result ≡ signs.is_up answer }
-{
-    match answer {
-        Ok(()) => false,
-        Err(TryLockError::WouldBlock) => true,
-        Err(TryLockError::Error(_)) => false,
-    }
-}
 
 /// Whether a rehearsal runs whose sign this is: another program holds its lock. Many may look at once.
 pub fn is_raised(sign: File) -> bool {
@@ -41,22 +21,16 @@ pub struct Sign {
     _file: Option<File>,
 }
 
-// Opens the file, which is made if it is not there. One of another account may not be written: to lock it needs no more
-// than to read it.
-fn open_at<R: Files<File = File>>(rt: &R, path: &str) -> io::Result<File> {
+// Opens the file of the sign of this show file, which is made if it is not there. One of another account may not be
+// written: to lock it needs no more than to read it.
+fn open<R: Files<File = File>>(rt: &R, alloc: Global, show: &str) -> io::Result<File> {
+    let path = sign_path(alloc, show)?;
+    let path = path.as_str();
     match fs::metadata(rt, path) {
         Ok(found) if !found.is_file() => Err(io::Error::from(ErrorKind::InvalidInput)),
         Ok(_) => File::open(rt, path),
         Err(_) => OpenOptions::new().write(true).create(true).open(rt, path),
     }
-}
-
-// The file of the sign of this show file.
-fn open<R: Files<File = File>>(rt: &R, alloc: Global, show: &str) -> io::Result<File> {
-    let path = sign_path(alloc, show)?;
-    let sign = open_at(rt, path.as_str());
-    drop(path);
-    sign
 }
 
 // Locks it. If another rehearsal of the show file runs, its sign is up already.

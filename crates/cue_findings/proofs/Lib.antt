@@ -1,0 +1,2 @@
+mod CheckingLemmas
+mod JudgingLemmas

@@ -1,0 +1,4 @@
+pub mod Checking
+pub mod Judging
+pub mod Laws
+pub mod Words

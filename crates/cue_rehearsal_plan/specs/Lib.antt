@@ -1,0 +1,5 @@
+pub mod Laws
+pub mod Roles
+pub mod Signs
+pub mod Unknown
+pub mod Words

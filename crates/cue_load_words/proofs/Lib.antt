@@ -1,2 +1,5 @@
+mod AnswerLemmas
 mod CopyLemmas
 mod EndingLemmas
+mod LookLemmas
+mod PlanLemmas

@@ -1,10 +1,12 @@
 -- The names of the copies that loads keep beside a show file, and which of them is taken.
 use Rattle.std.specs.Prelude.{◌≡◌, ◌≢◌, ◌⊎◌, ℕ, ◌+◌, ◌==◌, Bool, true, ◌&&◌, if◌then◌else◌, List, [], ◌∷◌, ◌++◌, codes}
-use Rattle.std.specs.Prelude.{decimal, nat_lt}
+use Rattle.std.specs.Prelude.{decimal, nat_lt, false, string_bytes, Result, Ok, Err, ⊤}
 use Rattle.std.specs.Char.{is_ascii_digit}
 use Rattle.std.specs.List.{list_all}
 use Rattle.cue_load_words.specs.declared.copies.Attempt.{Attempt}
 use Rattle.cue_load_words.specs.declared.copies.Attempt.TheVariants as attempt
+use Rattle.cue_load_words.specs.declared.copies.Kept.{Kept}
+use Rattle.cue_load_words.specs.declared.copies.Kept.TheVariants as kept
 use Rattle.cue_load_words.specs.declared.copies.TheConstants.{MAX_KEPT}
 use Rattle.cue_load_words.specs.declared.copies.Keeping.{Keeping}
 use Rattle.cue_load_words.specs.declared.copies.Keeping.TheVariants as keeping
@@ -65,3 +67,17 @@ pub record IsStem (path stem : List ℕ) : Type 0 where
   pub bare : List ℕ
   pub without : IsWithout toml path bare
   pub first : IsFirst bare stem
+
+-- ---- where a copy is
+
+-- a copy that is kept has one of the names for copies of the show file with this path
+abbrev pub IsBeside : List ℕ → Kept → Type 0
+IsBeside path (kept.In name) =
+    (stem : List ℕ) × (number : ℕ) × IsStem path stem × (string_bytes name ≡ kept_name stem number)
+IsBeside path kept.Full = ⊤
+
+-- it stands in a file, and its names were not all taken
+abbrev pub is_kept : {E : Type 0} → Result Kept E → Bool
+is_kept (Ok (kept.In name)) = true
+is_kept (Ok kept.Full) = false
+is_kept (Err e) = false

@@ -4,5 +4,8 @@ pub mod Counted
 pub mod Endings
 pub mod Laws
 pub mod LiveCues
+pub mod Looking
+pub mod Planned
+pub mod Progress
 pub mod Telling
 pub mod Words

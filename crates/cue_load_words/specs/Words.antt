@@ -1,5 +1,5 @@
 -- What a load says, byte for byte.
-use Rattle.std.specs.Prelude.{ℕ, ℤ, List, ◌++◌, codes, decimal}
+use Rattle.std.specs.Prelude.{ℕ, ℤ, List, [], ◌++◌, codes, decimal}
 use Rattle.std.specs.Fmt.{signed_decimal}
 use Rattle.cue_loading.specs.declared.comparing.Difference.{Difference}
 use Rattle.cue_loading.specs.declared.comparing.Difference.TheVariants as difference
@@ -51,11 +51,18 @@ other_store_words dir port =
 
 -- ---- in what the store is not what the file says
 
+-- the name of a file with what stands before and after it
+abbrev pub around : (before name after : List ℕ) → List ℕ
+around before name after = before ++ (shown_name name ++ after)
+
+abbrev pub where_words : Subject → (before path after : List ℕ) → List ℕ
+where_words s before path after = subject_words s ++ around before path after
+
 abbrev pub left_words : Subject → List ℕ → List ℕ
-left_words s path = subject_words s ++ (codes " is in the store and not in " ++ shown_name path)
+left_words s path = where_words s (codes " is in the store and not in ") path []
 
 abbrev pub missing_words : Subject → List ℕ → List ℕ
-missing_words s path = subject_words s ++ (codes " is in " ++ (shown_name path ++ codes " and not in the store"))
+missing_words s path = where_words s (codes " is in ") path (codes " and not in the store")
 
 abbrev pub port_words : (device port : ℕ) → List ℕ → List ℕ
 port_words device port path =
@@ -71,7 +78,7 @@ order_words cue other path =
     ++ (codes " is where the file has cue " ++ other))))
 
 abbrev pub otherwise_words : List ℕ → List ℕ
-otherwise_words path = codes "the store is not what " ++ (shown_name path ++ codes " says")
+otherwise_words path = around (codes "the store is not what ") path (codes " says")
 
 abbrev pub difference_words : Difference → List ℕ → List ℕ
 difference_words (difference.LeftDevice d) path = left_words (subject.Device d) path
@@ -89,13 +96,16 @@ difference_words difference.Otherwise path = otherwise_words path
 abbrev pub load_words : (path dir : List ℕ) → List ℕ
 load_words path dir = codes "cuedesk load " ++ (shown_name path ++ (codes " " ++ shown_name dir))
 
+-- what is had by a load with a flag
+abbrev pub advice_words : List ℕ → About → List ℕ → List ℕ
+advice_words what a flag =
+    codes "to " ++ (what ++ (codes ":  " ++ (load_words a.path.now a.dir.now ++ (codes " --" ++ flag))))
+
 abbrev pub to_replace_words : About → List ℕ
-to_replace_words a =
-    codes "to have what the file says:  " ++ (load_words a.path.now a.dir.now ++ codes " --replace")
+to_replace_words a = advice_words (codes "have what the file says") a (codes "replace")
 
 abbrev pub to_remove_words : About → List ℕ
-to_remove_words a =
-    codes "to take out what is not in the file:  " ++ (load_words a.path.now a.dir.now ++ codes " --exact")
+to_remove_words a = advice_words (codes "take out what is not in the file") a (codes "exact")
 
 -- ---- what the store had is not kept
 
@@ -105,7 +115,7 @@ no_name_words path =
     ++ (shown_name path ++ codes "; take old ones away")))
 
 abbrev pub not_kept_words : List ℕ → List ℕ
-not_kept_words path = codes "what the store had is NOT kept beside " ++ shown_name path
+not_kept_words path = around (codes "what the store had is NOT kept beside ") path []
 
 -- ---- lines
 

@@ -1,9 +1,11 @@
 //! The names of the copies that loads keep beside a show file, and which of them is taken.
-ghost use Rattle.std.specs.Prelude.{◌≡◌, IfOk, string_bytes};
+ghost use Rattle.std.specs.Prelude.{◌≡◌, IfOk, IsTrue, OnOk, string_bytes};
 ghost use Rattle.std.specs.Option.{option_map};
 ghost use Rattle.cue_load_words.specs.Copies as copies;
 
+use cue_machine::PostFault;
 use std::alloc::{AllocError, Global};
+use std::io;
 
 /// What stands between the name of the show file and the number of a copy.
 const KEPT: &str = ".before";
@@ -34,6 +36,25 @@ pub enum Keeping {
     Next(u32),
     /// Each name is taken.
     Full,
+}
+
+/// What became of a copy.
+#[derive(Drop)]
+pub enum Kept {
+    /// It stands in this file.
+    In(String),
+    /// All names are taken.
+    Full,
+}
+
+/// Whether a copy of which this became has gone out.
+pub fn went_out(kept: &io::Result<Kept>) -> Result<(), PostFault>
+    ensures { OnOk result (IsTrue (copies.is_kept kept.now)) }
+{
+    match kept {
+        Ok(Kept::In(_)) => Ok(()),
+        Ok(Kept::Full) | Err(_) => Err(PostFault),
+    }
 }
 
 /// What becomes of a copy after the attempt with this number, from 1.

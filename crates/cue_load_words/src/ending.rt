@@ -1,10 +1,13 @@
 //! How the command `load` ends.
-ghost use Rattle.std.specs.Prelude.{◌≡◌};
+ghost use Rattle.std.specs.Prelude.{◌≡◌, IfErr, None, OnOk, Some};
+ghost use Rattle.cue_desk.specs.declared.ending.Ending.TheVariants.{Failed};
 ghost use Rattle.cue_load_words.specs.Endings as endings;
+ghost use Rattle.cue_machine.specs.declared.living.Why.TheVariants.{Over};
 
 use cue_desk::answered::Answered;
 use cue_desk::ending::Ending;
 use cue_load_machine::LoadEnd;
+use cue_machine::Why;
 
 /// How a load ends whose plan, or whose adding, came to this; none if all of it was replied to. A machine that is not
 /// over was cut off.
@@ -38,5 +41,27 @@ pub fn ending_of(is_refused: bool, differs: bool) -> Option<Ending>
         Some(Ending::Refused)
     } else {
         None
+    }
+}
+
+/// How a load goes on whose machine lived so long: it goes on only if the machine is over.
+pub fn ended_by(why: Why) -> Result<(), Ending>
+    ensures over { OnOk result (why ≡ Over) }
+    ensures failed { IfErr result (λ ending. ending ≡ Failed) }
+{
+    match why {
+        Why::Over => Ok(()),
+        Why::Turns | Why::End | Why::Ears | Why::Memory => Err(Ending::Failed),
+    }
+}
+
+/// Whether a command that ends so is done.
+pub fn done_by(ending: Option<Ending>) -> Result<(), Ending>
+    ensures done { OnOk result (ending ≡ None) }
+    ensures ends { IfErr result (λ e. ending ≡ Some e) }
+{
+    match ending {
+        None => Ok(()),
+        Some(ending) => Err(ending),
     }
 }

@@ -5,7 +5,7 @@ ghost use Rattle.cue_load_words.specs.Words as words;
 
 use crate::copies::MAX_KEPT;
 use crate::subject::Named;
-use cue_loading::Difference;
+use cue_loading::{Difference, Manner};
 use cue_saying::Shown;
 use cue_show::{CueNo, DeviceNo};
 use cue_show_file::{Subject, cue_text};
@@ -21,6 +21,32 @@ pub struct About<'a> {
     pub dir: &'a str,
     /// The port of the controller.
     pub port: u16,
+}
+
+/// What is loaded, and how.
+#[derive(Clone, Copy)]
+pub struct Loaded<'a> {
+    /// The show file.
+    pub path: &'a str,
+    /// The folder of the store, if it is known.
+    pub dir: Option<&'a str>,
+    pub manner: Manner,
+    /// Whether it says on the way how far it has come.
+    pub tells: bool,
+}
+
+impl<'a> Loaded<'a> {
+    /// What its lines name, if the controller is at this port.
+    pub fn about(&self, port: u16) -> About<'a>
+        ensures path { result.path ≡ self.now.path }
+        ensures port { result.port ≡ port }
+    {
+        About {
+            path: self.path,
+            dir: self.dir.unwrap_or(""),
+            port,
+        }
+    }
 }
 
 /// A line that a load says.
@@ -123,6 +149,34 @@ fn write_other_store<W: fmt::Write>(f: &mut fmt::Formatter<W>, dir: &str, port: 
     )
 }
 
+// Writes the name of a file with what stands before and after it.
+fn write_around<W: fmt::Write>(
+    f: &mut fmt::Formatter<W>,
+    before: &str,
+    name: &str,
+    after: &str,
+) -> fmt::Result
+    ensures { WritesOnOk W.write_str_gives f.old result (words.around before.now name.now after.now) f.new }
+{
+    let name = Shown { text: name };
+    write!(f, "{before}{name}{after}")
+}
+
+// Writes in which of store and file an entry is, with what stands before and after the name of the file.
+fn write_where<W: fmt::Write>(
+    f: &mut fmt::Formatter<W>,
+    subject: &Subject,
+    before: &str,
+    path: &str,
+    after: &str,
+) -> fmt::Result
+    ensures { WritesOnOk W.write_str_gives f.old result
+        (words.where_words subject.now before.now path.now after.now) f.new }
+{
+    let (named, path) = (Named { subject }, Shown { text: path });
+    write!(f, "{named}{before}{path}{after}")
+}
+
 // Writes that the store has this, and the file does not.
 fn write_left<W: fmt::Write>(
     f: &mut fmt::Formatter<W>,
@@ -131,8 +185,7 @@ fn write_left<W: fmt::Write>(
 ) -> fmt::Result
     ensures { WritesOnOk W.write_str_gives f.old result (words.left_words subject.now path.now) f.new }
 {
-    let (named, path) = (Named { subject }, Shown { text: path });
-    write!(f, "{named} is in the store and not in {path}")
+    write_where(f, subject, " is in the store and not in ", path, "")
 }
 
 // Writes that the file has this, and the store does not.
@@ -143,8 +196,7 @@ fn write_missing<W: fmt::Write>(
 ) -> fmt::Result
     ensures { WritesOnOk W.write_str_gives f.old result (words.missing_words subject.now path.now) f.new }
 {
-    let (named, path) = (Named { subject }, Shown { text: path });
-    write!(f, "{named} is in {path} and not in the store")
+    write_where(f, subject, " is in ", path, " and not in the store")
 }
 
 // Writes that a device has another port than the file says.
@@ -191,14 +243,6 @@ fn write_order<W: fmt::Write>(
     )
 }
 
-// Writes that the two differ, and not how.
-fn write_otherwise<W: fmt::Write>(f: &mut fmt::Formatter<W>, path: &str) -> fmt::Result
-    ensures { WritesOnOk W.write_str_gives f.old result (words.otherwise_words path.now) f.new }
-{
-    let path = Shown { text: path };
-    write!(f, "the store is not what {path} says")
-}
-
 // Writes one difference.
 fn write_difference<W: fmt::Write>(
     f: &mut fmt::Formatter<W>,
@@ -215,30 +259,21 @@ fn write_difference<W: fmt::Write>(
         Difference::OtherPort(device, port) => write_port(f, *device, *port, path),
         Difference::OtherParts(cue) => write_parts(f, cue, path),
         Difference::OtherOrder(cue, other) => write_order(f, cue, other, path),
-        Difference::Otherwise => write_otherwise(f, path),
+        Difference::Otherwise => write_around(f, "the store is not what ", path, " says"),
     }
 }
 
-// Writes how to have what the file says.
-fn write_to_replace<W: fmt::Write>(f: &mut fmt::Formatter<W>, about: &About<'_>) -> fmt::Result
-    ensures { WritesOnOk W.write_str_gives f.old result (words.to_replace_words about.now) f.new }
+// Writes by which command something is had.
+fn write_advice<W: fmt::Write>(
+    f: &mut fmt::Formatter<W>,
+    what: &str,
+    about: &About<'_>,
+    flag: &str,
+) -> fmt::Result
+    ensures { WritesOnOk W.write_str_gives f.old result (words.advice_words what.now about.now flag.now) f.new }
 {
     let (path, dir) = (Shown { text: about.path }, Shown { text: about.dir });
-    write!(
-        f,
-        "to have what the file says:  cuedesk load {path} {dir} --replace"
-    )
-}
-
-// Writes how to take out what is not in the file.
-fn write_to_remove<W: fmt::Write>(f: &mut fmt::Formatter<W>, about: &About<'_>) -> fmt::Result
-    ensures { WritesOnOk W.write_str_gives f.old result (words.to_remove_words about.now) f.new }
-{
-    let (path, dir) = (Shown { text: about.path }, Shown { text: about.dir });
-    write!(
-        f,
-        "to take out what is not in the file:  cuedesk load {path} {dir} --exact"
-    )
+    write!(f, "to {what}:  cuedesk load {path} {dir} --{flag}")
 }
 
 // Writes that each name for a copy is taken.
@@ -250,14 +285,6 @@ fn write_no_name<W: fmt::Write>(f: &mut fmt::Formatter<W>, path: &str) -> fmt::R
         f,
         "what the store had is NOT kept: {MAX_KEPT} such files stand beside {path}; take old ones away"
     )
-}
-
-// Writes that the copy could not be written.
-fn write_not_kept<W: fmt::Write>(f: &mut fmt::Formatter<W>, path: &str) -> fmt::Result
-    ensures { WritesOnOk W.write_str_gives f.old result (words.not_kept_words path.now) f.new }
-{
-    let path = Shown { text: path };
-    write!(f, "what the store had is NOT kept beside {path}")
 }
 
 impl fmt::Display for SaidWords<'_> {
@@ -285,10 +312,20 @@ impl fmt::Display for SaidWords<'_> {
                 "so nothing is replaced: make room there, or load a copy of the show file from another folder",
             ),
             Said::Differs(difference) => write_difference(f, difference, self.about.path),
-            Said::ToReplace => write_to_replace(f, self.about),
-            Said::ToRemove => write_to_remove(f, self.about),
+            Said::ToReplace => write_advice(f, "have what the file says", self.about, "replace"),
+            Said::ToRemove => write_advice(
+                f,
+                "take out what is not in the file",
+                self.about,
+                "exact",
+            ),
             Said::NoName => write_no_name(f, self.about.path),
-            Said::NotKept => write_not_kept(f, self.about.path),
+            Said::NotKept => write_around(
+                f,
+                "what the store had is NOT kept beside ",
+                self.about.path,
+                "",
+            ),
             Said::NoSocket => f.write_str("no socket"),
         }
     }

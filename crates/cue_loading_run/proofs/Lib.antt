@@ -1,2 +1,2 @@
-mod AnswerLemmas
 mod LivedLemmas
+mod SeenLemmas

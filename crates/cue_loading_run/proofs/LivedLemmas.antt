@@ -1,6 +1,6 @@
--- The parts of a life are one life, and what was planned is there.
-use Rattle.std.proofs.Common.{◌≡◌, ℕ, List, [], ◌∷◌, ◌++◌, Option, Some, true, refl, subst, inl, inr}
-use Rattle.std.specs.Prelude.{IfSome, OnOk, Result, Ok, Err}
+-- The parts of a life are one life.
+use Rattle.std.proofs.Common.{◌≡◌, ℕ, List, [], ◌∷◌, ◌++◌, Option, true, refl, subst, inl, inr}
+use Rattle.std.specs.Prelude.{OnOk, Result, Ok, Err}
 use Rattle.cue_machine.specs.declared.living.Ended.{Ended}
 use Rattle.cue_machine.specs.declared.living.Why.{Why}
 use Rattle.cue_machine.specs.declared.living.Why.TheVariants as why
@@ -52,8 +52,3 @@ carried_out {ended = ended} m mid m_then had lived e =
 pub on_ok : {A E P Q : Type 0} → (P → Q) → (r : Result A E) → OnOk r P → OnOk r Q
 on_ok f (Ok x) h = f h
 on_ok f (Err e) h = h
-
--- ---- plans
-
-pub of_some : {A : Type 0} → (P : A → Type 0) (o : Option A) (x : A) → o ≡ Some x → IfSome o P → P x
-of_some P o x e h = subst (λ (p : Option _). IfSome p P) e h

@@ -1,3 +1,2 @@
-pub mod Kept
 pub mod Lived
-pub mod Planned
+pub mod Seen

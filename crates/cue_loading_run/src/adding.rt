@@ -1,17 +1,14 @@
 //! What a show file has is added, and the store is compared with it, if its folder is known.
-ghost use Rattle.std.specs.Prelude.{◌≡◌, ◌||◌, IfOk, None, OnOk, false, length};
-ghost use Rattle.cue_load_machine.specs.Order.{comes_late};
-ghost use Rattle.cue_load_words.specs.Endings.{some_refused};
-ghost use Rattle.cue_load_machine.specs.Answering.{AreAnswers};
-ghost use Rattle.cue_load_machine.specs.Steps.{told_of};
+ghost use Rattle.std.specs.Prelude.{◌≡◌, IfOk, None, OnOk, false, length};
+ghost use Rattle.cue_load_words.specs.Looking.{IsCompared};
 
-use crate::loading::{Loading, done_by};
-use crate::progress::Progress;
+use crate::loading::Loading;
 use cue_desk::answered::Answered;
 use cue_desk::ending::Ending;
-use cue_load_machine::{Entry, LoadEnd, LoadMachine, add_entries, answers_in, comes_late};
+use cue_load_machine::{Entry, LoadEnd, LoadMachine, add_entries};
 use cue_load_words::{
-    Kind, Printed, Said, added_line, copied_of, ending_of, lines_of_refusals, some_refused,
+    Added, Kind, Printed, Progress, Said, Stored, added_line, answers_of, copied_of, done_by,
+    ending_of, lines_of_refusals,
 };
 use cue_show::Show;
 use cue_show_file::ShowFile;
@@ -19,66 +16,6 @@ use std::fs::{File, Files};
 use std::io::{Eprint, Write};
 use std::net::Net;
 use std::time::Clock;
-
-/// What the replies say of an adding.
-#[derive(Clone, Copy)]
-struct Added {
-    is_refused: bool,
-    // Whether a cue that is new may stand after one that was there, and that the file has after it.
-    comes_late: bool,
-}
-
-impl Added {
-    // What these replies to devices and to cues say.
-    fn by(devices: &[Answered], cues: &[Answered]) -> Added
-        ensures refused { result.is_refused ≡ some_refused devices.now || some_refused cues.now }
-        ensures late { result.comes_late ≡ comes_late cues.now }
-    {
-        Added {
-            is_refused: some_refused(devices) || some_refused(cues),
-            comes_late: comes_late(cues),
-        }
-    }
-}
-
-impl<'a, R: Eprint + AllocGlobal> Loading<'a, R> {
-    // What became of these, as its own reply says of each, once the machine that adds them is over; else to what nobody
-    // replied is said.
-    fn answers_of<E: Entry>(
-        &self,
-        machine: &LoadMachine,
-        entries: &[E],
-    ) -> Result<Vec<Answered>, Ending>
-        ensures each { IfOk result (λ answers.
-            AreAnswers (told_of machine.now.asks.items machine.now.answers.items) answers.items) }
-        ensures all { IfOk result (λ answers. length answers.items ≡ length entries.now) }
-    {
-        let told = machine.told(self.alloc())?;
-        match answers_in(self.alloc(), &told, entries.len())? {
-            Some(answers) => Ok(answers),
-            None => {
-                if let Some(entry) = entries.get(machine.done()) {
-                    self.say(&Said::Unanswered(entry.subject()));
-                }
-                Err(Ending::Silent)
-            }
-        }
-    }
-
-    // Says of each that was refused that it was.
-    fn tell_refused<E: Entry, W: Write>(
-        &self,
-        entries: &[E],
-        answers: &[Answered],
-        progress: &mut Progress<'_, W>,
-    ) -> Result<(), Ending> {
-        for said in &lines_of_refusals(self.alloc(), entries, answers)? {
-            progress.clear();
-            self.say(said);
-        }
-        Ok(())
-    }
-}
 
 impl<'a, R: Files<File = File> + Net + Clock + Eprint + AllocGlobal> Loading<'a, R> {
     // Keeps what the store in this folder has, if adding the file changes it.
@@ -88,16 +25,22 @@ impl<'a, R: Files<File = File> + Net + Clock + Eprint + AllocGlobal> Loading<'a,
         file: &Show,
         progress: &mut Progress<'_, W>,
     ) -> Result<(), Ending> {
-        let stored = self.stored(dir)?;
-        let copied = copied_of(self.alloc(), self.what.manner, file, &stored, self.port)?;
+        let stored = self.stored(dir, false)?;
+        let copied = copied_of(
+            self.rt.alloc(),
+            self.what.manner,
+            file,
+            stored.show(),
+            self.port,
+        )?;
         if !copied.is_wanted {
             return Ok(());
         }
-        let mut machine = LoadMachine::copying(self.alloc(), copied.text)?;
+        let mut machine = LoadMachine::copying(self.rt.alloc(), copied.text)?;
         self.carry_out(&mut machine, progress)
     }
 
-    // Adds all of these: what became of each.
+    // Adds all of these: what became of each. To what nobody replied is said, and each that was refused.
     fn add_each<E: Entry, W: Write>(
         &self,
         entries: &[E],
@@ -105,7 +48,7 @@ impl<'a, R: Files<File = File> + Net + Clock + Eprint + AllocGlobal> Loading<'a,
     ) -> Result<Vec<Answered>, Ending>
         ensures { IfOk result (λ answers. length answers.items ≡ length entries.now) }
     {
-        let Ok(mut machine) = add_entries(self.alloc(), self.port, entries) else {
+        let Ok(mut machine) = add_entries(self.rt.alloc(), self.port, entries) else {
             return Err(Ending::Failed);
         };
         let carried = self.carry_out(&mut machine, progress);
@@ -113,9 +56,29 @@ impl<'a, R: Files<File = File> + Net + Clock + Eprint + AllocGlobal> Loading<'a,
             progress.clear();
         }
         carried?;
-        let answers = self.answers_of(&machine, entries)?;
+        let Some(answers) = answers_of(self.rt.alloc(), &machine, entries.len())? else {
+            if let Some(entry) = entries.get(machine.done()) {
+                self.say(&Said::Unanswered(entry.subject()));
+            }
+            return Err(Ending::Silent);
+        };
         progress.pass(entries.len());
+        self.tell_refused(entries, &answers, progress)?;
         Ok(answers)
+    }
+
+    // Says of each that was refused that it was.
+    fn tell_refused<E: Entry, W: Write>(
+        &self,
+        entries: &[E],
+        answers: &[Answered],
+        progress: &mut Progress<'_, W>,
+    ) -> Result<(), Ending> {
+        for said in &lines_of_refusals(self.rt.alloc(), entries, answers)? {
+            progress.clear();
+            self.say(said);
+        }
+        Ok(())
     }
 
     // Adds what the file has, devices first, and says what became of all.
@@ -125,12 +88,13 @@ impl<'a, R: Files<File = File> + Net + Clock + Eprint + AllocGlobal> Loading<'a,
         progress: &mut Progress<'_, W>,
     ) -> Result<Added, Ending> {
         let devices = self.add_each(&file.devices, progress)?;
-        self.tell_refused(&file.devices, &devices, progress)?;
         let cues = self.add_each(&file.cues, progress)?;
-        self.tell_refused(&file.cues, &cues, progress)?;
         progress.clear();
-        progress.print(&added_line(Kind::Devices, &devices), &self.about())?;
-        progress.print(&added_line(Kind::Cues, &cues), &self.about())?;
+        progress.print(
+            &added_line(Kind::Devices, &devices),
+            &self.what.about(self.port),
+        )?;
+        progress.print(&added_line(Kind::Cues, &cues), &self.what.about(self.port))?;
         Ok(Added::by(&devices, &cues))
     }
 
@@ -141,18 +105,20 @@ impl<'a, R: Files<File = File> + Net + Clock + Eprint + AllocGlobal> Loading<'a,
         file: &Show,
         added: Added,
         progress: &mut Progress<'_, W>,
-    ) -> Result<(), Ending>
+    ) -> Result<Option<Stored>, Ending>
+        ensures compared { IfOk result (IsCompared self.now.what.dir file.now) }
         ensures taken { OnOk result (added.is_refused ≡ false) }
         ensures order { self.now.what.dir ≡ None → OnOk result (added.comes_late ≡ false) }
     {
         match self.what.dir {
-            Some(dir) => self.compare(added.is_refused, true, dir, file),
+            Some(dir) => Ok(Some(self.compare(added.is_refused, true, dir, file)?)),
             None => {
-                progress.print(&Printed::NotCompared, &self.about())?;
+                progress.print(&Printed::NotCompared, &self.what.about(self.port))?;
                 if added.comes_late {
                     self.say(&Said::OtherOrder);
                 }
-                done_by(ending_of(added.is_refused, added.comes_late))
+                done_by(ending_of(added.is_refused, added.comes_late))?;
+                Ok(None)
             }
         }
     }
@@ -164,9 +130,11 @@ impl<'a, R: Files<File = File> + Net + Clock + Eprint + AllocGlobal> Loading<'a,
         file: &ShowFile,
         show: &Show,
         writer: &mut W,
-    ) -> Result<(), Ending> {
+    ) -> Result<Option<Stored>, Ending>
+        ensures { IfOk result (IsCompared self.now.what.dir show.now) }
+    {
         let all = file.devices.len().saturating_add(file.cues.len());
-        let mut progress = Progress::new(self.alloc(), self.what.tells, all, writer);
+        let mut progress = Progress::new(self.rt.alloc(), self.what.tells, all, writer);
         if let Some(dir) = self.what.dir {
             self.keep_stored(dir, show, &mut progress)?;
         }

@@ -1,23 +1,11 @@
 //! What the store had before a load changes it is kept as a show file, beside the one that is loaded.
 ghost use Rattle.std.specs.Prelude.{◌≡◌, IfOk, true};
 ghost use Rattle.std.specs.Fs.{asks_create_new};
-ghost use Rattle.cue_loading_run.specs.Kept.{IsBeside};
+ghost use Rattle.cue_load_words.specs.Copies.{IsBeside};
 
-use crate::loading::Loading;
-use crate::progress::Progress;
-use cue_desk::ending::Ending;
-use cue_load_words::{Attempt, Keeping, MAX_KEPT, Said, kept_name, next_of, stem_of};
+use cue_load_words::{Attempt, Keeping, Kept, MAX_KEPT, kept_name, next_of, stem_of};
 use std::fs::{self, File, Files, OpenOptions};
-use std::io::{self, Eprint, ErrorKind, Write};
-
-/// What became of a copy.
-#[derive(Drop)]
-pub enum Kept {
-    /// It stands in this file.
-    In(String),
-    /// All names are taken.
-    Full,
-}
+use std::io::{self, ErrorKind, Write};
 
 // How a copy is opened: only if nothing stands there.
 fn as_new() -> OpenOptions
@@ -39,15 +27,7 @@ fn write_new<R: Files<File = File>>(rt: &R, path: &str, text: &[u8]) -> io::Resu
     written
 }
 
-// What stands in a file, which is there, beside this text. One that cannot be read is another one.
-fn found_in<R: Files<File = File> + AllocGlobal>(rt: &R, path: &str, text: &[u8]) -> Attempt {
-    match fs::read_to_string(rt, path) {
-        Ok(other) if other.as_bytes() == text => Attempt::HasSame,
-        _ => Attempt::HasOther,
-    }
-}
-
-// Keeps the text in this file, if nothing stands there.
+// Keeps the text in this file, if nothing stands there. What cannot be read there is another text.
 fn attempt<R: Files<File = File> + AllocGlobal>(
     rt: &R,
     path: &str,
@@ -56,7 +36,10 @@ fn attempt<R: Files<File = File> + AllocGlobal>(
     match write_new(rt, path, text) {
         Ok(()) => Ok(Attempt::Written),
         Err(why) if why.kind() != ErrorKind::AlreadyExists => Err(why),
-        Err(_) => Ok(found_in(rt, path, text)),
+        Err(_) => match fs::read_to_string(rt, path) {
+            Ok(other) if other.as_bytes() == text => Ok(Attempt::HasSame),
+            _ => Ok(Attempt::HasOther),
+        },
     }
 }
 
@@ -79,22 +62,4 @@ pub fn keep_beside<R: Files<File = File> + AllocGlobal>(
         }
     }
     Ok(Kept::Full)
-}
-
-impl<'a, R: Eprint + AllocGlobal> Loading<'a, R> {
-    /// Says what became of the copy, and how to take the load back.
-    pub fn tell_kept<W: Write>(
-        &self,
-        kept: &io::Result<Kept>,
-        progress: &mut Progress<'_, W>,
-    ) -> Result<(), Ending> {
-        match kept {
-            Ok(Kept::In(name)) => {
-                return progress.print_kept(name.as_str(), self.what.dir.unwrap_or(""));
-            }
-            Ok(Kept::Full) => self.say(&Said::NoName),
-            Err(why) => self.say_why(&Said::NotKept, why),
-        }
-        Ok(())
-    }
 }

@@ -1,6 +1,10 @@
 //! The run of a load: sockets, files and the output around `cue_load_machine`, which decides what is sent, what a
 //! reply means, and when a load is over, and around `cue_load_words`, which decides which lines are said, how the
-//! command ends and how the copies are named. There is no text here.
+//! command ends, whether a store that was read is the one that is served, and how the copies are named. There is no text
+//! here.
+//!
+//! A load that is done gives the store that it read last, which is what the file says: `Stored` is made of a status and
+//! of a state alone, so no body that leaves the last reading out has one.
 //!
 //! Why it is so:
 //! - Each life of a machine has sockets of its own: so what is replied late to an earlier one is never heard.
@@ -17,8 +21,8 @@ mod copying;
 mod loading;
 mod looking;
 mod posting;
-mod progress;
 mod replacing;
 mod running;
 
-pub use loading::{Loaded, load};
+pub use cue_load_words::Loaded;
+pub use loading::{Done, load, loaded};

@@ -1,9 +1,10 @@
 //! The post of a load: datagrams by its sockets, and the copy of the store beside the show file.
 ghost use Rattle.std.specs.Prelude.{IfOk, IfSome, IsSomeAnd, IsTrue, None, OnOk};
-ghost use Rattle.cue_loading_run.specs.Kept.{IsBeside, is_kept};
+ghost use Rattle.cue_load_words.specs.Copies.{IsBeside, is_kept};
 
-use crate::copying::{Kept, keep_beside};
+use crate::copying::keep_beside;
 use cue_edge_run::SocketPost;
+use cue_load_words::{Kept, went_out};
 use cue_machine::{Output, Post, PostFault};
 use mio::net::UdpSocket;
 use std::fs::{File, Files};
@@ -16,16 +17,6 @@ pub struct LoadPost<'a, R> {
     path: &'a str,
     sockets: SocketPost<'a>,
     kept: Option<io::Result<Kept>>,
-}
-
-// Whether a copy of which this became went out.
-fn went_out(kept: &io::Result<Kept>) -> Result<(), PostFault>
-    ensures { OnOk result (IsTrue (is_kept kept.now)) }
-{
-    match kept {
-        Ok(Kept::In(_)) => Ok(()),
-        Ok(Kept::Full) | Err(_) => Err(PostFault),
-    }
 }
 
 impl<'a, R: Files<File = File> + AllocGlobal> LoadPost<'a, R> {

@@ -4,49 +4,25 @@ ghost use Rattle.cue_loading.specs.Steps.{goes_on};
 ghost use Rattle.cue_load_machine.specs.Plans.{rests};
 ghost use Rattle.cue_load_machine.specs.Stages.{end_of};
 ghost use Rattle.cue_load_machine.specs.declared.stage.LoadEnd.TheVariants.{Done};
-ghost use Rattle.cue_loading_run.specs.Planned.{IsPlannedFrom};
+ghost use Rattle.cue_load_words.specs.Looking.{IsLoaded};
+ghost use Rattle.cue_load_words.specs.Planned.{IsPlannedFrom};
 
-use crate::loading::{Loading, done_by};
-use crate::looking::Stored;
-use crate::progress::Progress;
+use crate::loading::Loading;
 use cue_desk::ending::Ending;
-use cue_load_machine::{LoadEnd, Planned, is_exact, plan_load};
-use cue_load_words::{Kind, Said, copied_of, ending_of_machine, lines_of_plan, replaced_line};
+use cue_load_machine::{LoadEnd, Planned, is_exact};
+use cue_load_words::{
+    Kind, Progress, Said, Stored, done_by, ending_of_machine, lines_of_plan, planned_from,
+    replaced_line,
+};
 use cue_show::{CueNo, Show};
 use std::fs::{File, Files};
 use std::io::{Eprint, Write};
 use std::net::Net;
 use std::time::Clock;
 
-impl<'a, R: Eprint + AllocGlobal> Loading<'a, R> {
-    // Says what became of a plan; the place of the store was this.
-    fn tell_plan(&self, planned: &Planned, place: Option<CueNo>) {
-        let lines = lines_of_plan(planned, place);
-        for said in [lines.why, lines.not_whole, lines.place] {
-            if let Some(said) = said {
-                self.say(&said);
-            }
-        }
-    }
-
-    // Says what became of all.
-    fn tell_counts<W: Write>(
-        &self,
-        file: &Show,
-        stored: &Show,
-        progress: &mut Progress<'_, W>,
-    ) -> Result<(), Ending> {
-        let exact = is_exact(self.what.manner);
-        progress.clear();
-        for kind in [Kind::Devices, Kind::Cues] {
-            progress.print(&replaced_line(kind, exact, file, stored), &self.about())?;
-        }
-        Ok(())
-    }
-}
-
 impl<'a, R: Files<File = File> + Net + Clock + Eprint + AllocGlobal> Loading<'a, R> {
-    // Carries a plan out, and says what it came to, if that is not all. It is done only if each of its steps was.
+    // Carries a plan out, and says what it came to, if that is not all; the place of the store was this. It is done only
+    // if each of its steps was.
     fn follow<W: Write>(
         &self,
         planned: &mut Planned,
@@ -60,37 +36,30 @@ impl<'a, R: Files<File = File> + Net + Clock + Eprint + AllocGlobal> Loading<'a,
         if end != Some(LoadEnd::Done) {
             progress.clear();
         }
-        self.tell_plan(planned, place);
+        let lines = lines_of_plan(planned, place);
+        for said in [lines.why, lines.not_whole, lines.place] {
+            if let Some(said) = said {
+                self.say(&said);
+            }
+        }
         match carried {
             Ok(()) => done_by(ending_of_machine(end)),
             Err(ending) => Err(ending),
         }
     }
 
-    // Plans how to make of what the store has what the file says.
+    // Plans how to make of what the store has what the file says; if the stack has no room, that is said.
     fn planned(&self, file: &Show, stored: &Stored) -> Result<Planned, Ending>
         requires at_rest { rests stored.now.live ≡ true }
         requires takes { goes_on self.now.what.manner false ≡ false }
-        ensures { IfOk result (λ planned.
-            IsPlannedFrom self.now.port self.now.what.manner file.now stored.now.show planned) }
+        ensures { IfOk result (IsPlannedFrom self.now.port self.now.what.manner file.now stored.now.show) }
     {
-        let (manner, live) = (self.what.manner, stored.live);
-        let copied = copied_of(self.alloc(), manner, file, &stored.show, self.port)?;
-        match plan_load(
-            self.alloc(),
-            self.port,
-            manner,
-            file,
-            &stored.show,
-            live,
-            copied,
-        ) {
-            Ok(Some(planned)) => Ok(planned),
-            Ok(None) => {
+        match planned_from(self.rt.alloc(), self.port, self.what.manner, file, stored)? {
+            Some(planned) => Ok(planned),
+            None => {
                 self.say(&Said::NoRoom);
                 Err(Ending::Refused)
             }
-            Err(_) => Err(Ending::Failed),
         }
     }
 
@@ -102,11 +71,16 @@ impl<'a, R: Files<File = File> + Net + Clock + Eprint + AllocGlobal> Loading<'a,
     {
         let mut planned = self.planned(file, stored)?;
         let all = planned.steps.len();
-        let mut progress = Progress::new(self.alloc(), self.what.tells, all, writer);
-        let followed = self.follow(&mut planned, stored.show.place(), &mut progress);
+        let mut progress = Progress::new(self.rt.alloc(), self.what.tells, all, writer);
+        let followed = self.follow(&mut planned, stored.show().place(), &mut progress);
         drop(planned);
         followed?;
-        self.tell_counts(file, &stored.show, &mut progress)
+        progress.clear();
+        for kind in [Kind::Devices, Kind::Cues] {
+            let line = replaced_line(kind, is_exact(self.what.manner), file, stored.show());
+            progress.print(&line, &self.what.about(self.port))?;
+        }
+        Ok(())
     }
 
     /// Puts the file in the place of what differs, and compares the store with it. While a cue is live nothing is
@@ -116,10 +90,11 @@ impl<'a, R: Files<File = File> + Net + Clock + Eprint + AllocGlobal> Loading<'a,
         file: &Show,
         dir: &str,
         writer: &mut W,
-    ) -> Result<(), Ending>
+    ) -> Result<Stored, Ending>
         requires { goes_on self.now.what.manner false ≡ false }
+        ensures { IfOk result (IsLoaded file.now) }
     {
-        let stored = self.stored_at_rest(dir)?;
+        let stored = self.stored(dir, true)?;
         let replaced = self.replace(file, &stored, writer);
         drop(stored);
         replaced?;

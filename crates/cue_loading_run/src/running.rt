@@ -1,20 +1,16 @@
 //! The lives of machines, at sockets that are connected to the controller's port.
-ghost use Rattle.std.specs.Prelude.{◌≡◌, IfErr, OnOk};
-ghost use Rattle.cue_desk.specs.declared.ending.Ending.TheVariants.{Failed};
-ghost use Rattle.cue_machine.specs.declared.living.Why.TheVariants.{Over};
+ghost use Rattle.std.specs.Prelude.{OnOk};
 ghost use Rattle.cue_loading_run.specs.Lived.{WasCarriedOut};
 
 use crate::loading::Loading;
 use crate::posting::LoadPost;
-use crate::progress::Progress;
 use cue_ask_machine::home;
 use cue_desk::ending::Ending;
 use cue_edge_run::{NetEars, SocketPost, connected};
 use cue_load_machine::{LoadMachine, SOCKETS, advance};
-use cue_load_words::Said;
+use cue_load_words::{Kept, Progress, Said, ended_by};
 use cue_machine::{Room, Why};
 use mio::net::UdpSocket;
-use std::alloc::{AllocError, Global};
 use std::fs::{File, Files};
 use std::io::{self, Eprint, Write};
 use std::net::Net;
@@ -24,13 +20,8 @@ use std::time::Clock;
 /// so.
 const MAX_RECEIVED: usize = 4_100;
 
-/// For how many bytes of an output there is room at first.
+/// For how many bytes of an output there is room at first. A turn of a load has one output at most.
 const BYTES: usize = 4_096;
-
-// Room for the turns of a load, each of which has one output at most.
-fn room(alloc: Global) -> Result<Room, AllocError> {
-    Room::new(alloc, MAX_RECEIVED, 1, BYTES)
-}
 
 // All sockets of a load, connected to the controller at this port.
 fn connect_all<R: Net + AllocGlobal>(rt: &R, port: u16) -> io::Result<Vec<UdpSocket>> {
@@ -42,17 +33,6 @@ fn connect_all<R: Net + AllocGlobal>(rt: &R, port: u16) -> io::Result<Vec<UdpSoc
         }
     }
     Ok(sockets)
-}
-
-// How a life ended, unless the machine is over.
-fn ended_by(why: Why) -> Result<(), Ending>
-    ensures over { OnOk result (why ≡ Over) }
-    ensures err { IfErr result (λ ending. ending ≡ Failed) }
-{
-    match why {
-        Why::Over => Ok(()),
-        Why::Turns | Why::End | Why::Ears | Why::Memory => Err(Ending::Failed),
-    }
 }
 
 impl<'a, R: Net + Clock + Eprint + AllocGlobal> Loading<'a, R> {
@@ -75,7 +55,7 @@ impl<'a, R: Net + Clock + Eprint + AllocGlobal> Loading<'a, R> {
             return Err(Ending::Failed);
         };
         let mut post = SocketPost::new(ears.sockets());
-        let mut room = room(self.alloc())?;
+        let mut room = Room::new(self.rt.alloc(), MAX_RECEIVED, 1, BYTES)?;
         let ended = advance(machine, &mut ears, &mut post, &mut room, u64::MAX);
         ended_by(ended.why)
     }
@@ -92,17 +72,23 @@ impl<'a, R: Net + Clock + Eprint + AllocGlobal> Loading<'a, R> {
 }
 
 impl<'a, R: Files<File = File> + Net + Clock + Eprint + AllocGlobal> Loading<'a, R> {
-    // Says what became of the copy, if it went out in this turn, and shows how far the machine has come.
+    // Says what became of the copy, if it went out in this turn, and how to take the load back; and shows how far the
+    // machine has come.
     fn tell_turn<W: Write>(
         &self,
         machine: &LoadMachine,
-        post: &mut LoadPost<'_, R>,
+        kept: Option<io::Result<Kept>>,
         progress: &mut Progress<'_, W>,
     ) -> Result<(), Ending> {
-        if let Some(kept) = post.take_kept() {
-            self.tell_kept(&kept, progress)?;
+        match kept {
+            Some(Ok(Kept::In(name))) => {
+                progress.print_kept(name.as_str(), self.what.dir.unwrap_or(""))?;
+            }
+            Some(Ok(Kept::Full)) => self.say(&Said::NoName),
+            Some(Err(why)) => self.say_why(&Said::NotKept, &why),
+            None => {}
         }
-        progress.reach(machine)
+        progress.reach(machine.done())
     }
 
     // Lets a machine live at these sockets, until it is over. It is told on the way what it has done.
@@ -118,10 +104,10 @@ impl<'a, R: Files<File = File> + Net + Clock + Eprint + AllocGlobal> Loading<'a,
             return Err(Ending::Failed);
         };
         let mut post = LoadPost::new(self.rt, self.what.path, ears.sockets());
-        let mut room = room(self.alloc())?;
+        let mut room = Room::new(self.rt.alloc(), MAX_RECEIVED, 1, BYTES)?;
         for _ in 0..u64::MAX {
             let ended = advance(machine, &mut ears, &mut post, &mut room, 1);
-            self.tell_turn(machine, &mut post, progress)?;
+            self.tell_turn(machine, post.take_kept(), progress)?;
             if ended.why != Why::Turns {
                 return ended_by(ended.why);
             }

@@ -1,4 +1,7 @@
 //! The command `sheet`.
+ghost use Rattle.std.specs.Prelude.{◌≡◌};
+ghost use Rattle.cuedesk.specs.Titles as titles;
+
 use cue_desk::ending::Ending;
 use cue_files_run::read_file;
 use cue_report::printed_words;
@@ -12,7 +15,9 @@ use std::path::Path;
 use std::time::Clock;
 
 // The title of a sheet: the one that was said, else the name of its file, without its folders and its ending.
-fn title_of<'a>(title: &'a str, path: &'a str) -> &'a str {
+fn title_of<'a>(title: &'a str, path: &'a str) -> &'a str
+    ensures { result.now ≡ titles.title_of title.now path.now }
+{
     if title.is_empty() {
         Path::new(path).file_stem().unwrap_or(path)
     } else {

@@ -1,0 +1,6 @@
+mod LawLemmas
+mod PictureLemmas
+mod PlainLemmas
+mod RowLemmas
+mod TerminalLemmas
+mod WritingLemmas

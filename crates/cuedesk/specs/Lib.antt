@@ -1,6 +1,11 @@
 pub mod Beginning
+pub mod Beside
+pub mod Carrying
 pub mod Devices
+pub mod Marking
 pub mod NewFiles
 pub mod Orders
+pub mod Relaying
+pub mod Reporting
 pub mod Titles
 pub mod Windows

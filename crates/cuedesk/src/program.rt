@@ -3,6 +3,7 @@ ghost use Rattle.std.specs.Prelude.{◌≡◌, ◌↔◌};
 ghost use Rattle.cue_desk.specs.Endings.{ending_status};
 ghost use Rattle.cue_desk.specs.Lines.{IsHelp, IsUsage};
 ghost use Rattle.cue_desk.specs.declared.line.LineFault.TheVariants.{Memory};
+ghost use Rattle.cuedesk.specs.Carrying as carrying;
 
 mod beside;
 mod board;
@@ -87,13 +88,32 @@ fn refused_line<R: Eprint, W: Write>(rt: &R, fault: LineFault, writer: &mut W) -
     }
 }
 
+// What is marked.
+fn curtain_of(is_up: bool) -> Curtain
+    ensures { result ≡ carrying.curtain_of is_up }
+{
+    if is_up { Curtain::Up } else { Curtain::Down }
+}
+
+// The exit status of a command that was carried out, or was not.
+fn status_of<R: Eprint>(rt: &R, carried: Result<(), Ending>) -> u8
+    ensures { result ≡ carrying.status_of carried }
+{
+    match carried {
+        Ok(()) => 0,
+        Err(ending) => end(rt, ending),
+    }
+}
+
 // Carries a command out.
 fn carry_out<R: Files<File = File> + Net + Clock + RandomSource + Eprint + AllocGlobal, W: Write>(
     rt: &R,
     line: &Line,
     is_terminal: bool,
     writer: &mut W,
-) -> Result<(), Ending> {
+) -> Result<(), Ending>
+    ensures { carrying.IsCarriedOut line.now result (W.contents writer.old) (W.contents writer.new) }
+{
     match line {
         Line::Check { file } => check_file(rt, file.as_str(), writer),
         Line::Load {
@@ -133,8 +153,7 @@ fn carry_out<R: Files<File = File> + Net + Clock + RandomSource + Eprint + Alloc
         }
         Line::Report(report) => report_evening(rt, report, writer),
         Line::Mark { file, is_up } => {
-            let curtain = if *is_up { Curtain::Up } else { Curtain::Down };
-            mark_curtain(rt, file.as_str(), curtain, writer)
+            mark_curtain(rt, file.as_str(), curtain_of(*is_up), writer)
         }
         Line::Ask { order, port, name } => carry_order(rt, order, &[], *port, name, writer),
         Line::StandBy {
@@ -159,12 +178,15 @@ pub fn perform<R: Files<File = File> + Net + Clock + RandomSource + Eprint + All
     environment: &Environment<'_>,
     is_terminal: bool,
     writer: &mut W,
-) -> u8 {
+) -> u8
+    ensures { carrying.IsPerformed result (W.contents writer.old) (W.contents writer.new) }
+{
     match line(rt.alloc(), words, environment) {
-        Ok(line) => match carry_out(rt, &line, is_terminal, writer) {
-            Ok(()) => 0,
-            Err(ending) => end(rt, ending),
-        },
+        Ok(line) => {
+            let carried = carry_out(rt, &line, is_terminal, writer);
+            drop(line);
+            status_of(rt, carried)
+        }
         Err(fault) => refused_line(rt, fault, writer),
     }
 }

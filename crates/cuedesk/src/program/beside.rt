@@ -1,4 +1,7 @@
 //! What the board has beside the store: the log of the evening, the status of a relay, what is told of the show file.
+ghost use Rattle.std.specs.Prelude.{◌≡◌, [], ◌∷◌, IfOk, map, option_copied, string_bytes};
+ghost use Rattle.cuedesk.specs.Beside as beside;
+
 use cue_board::log_lines;
 use cue_desk_run::{open_plain, read_status};
 use cue_files_run::words;
@@ -28,14 +31,18 @@ fn end_of<R: Files<File = File> + AllocGlobal>(rt: &R, path: &str) -> io::Result
 }
 
 /// One line alone.
-pub fn only(alloc: Global, line: String) -> Result<Vec<String>, AllocError> {
+pub fn only(alloc: Global, line: String) -> Result<Vec<String>, AllocError>
+    ensures { IfOk result (λ lines. lines.items ≡ line ∷ []) }
+{
     let mut lines = Vec::new(alloc);
     lines.push(line)?;
     Ok(lines)
 }
 
 /// What is told of the show file, as one line; no line if nothing is told.
-pub fn file_line(alloc: Global, told: Option<&str>) -> Result<Vec<String>, AllocError> {
+pub fn file_line(alloc: Global, told: Option<&str>) -> Result<Vec<String>, AllocError>
+    ensures { IfOk result (λ lines. map string_bytes lines.items ≡ beside.file_lines (option_copied told.entry)) }
+{
     match told {
         Some(told) => {
             let line = format!(in alloc; "FILE   {told}")?;

@@ -1,6 +1,11 @@
 //! The command `report`: an evening, by the log of `serve`.
+ghost use Rattle.std.specs.Prelude.{◌≡◌, ◌++◌, IfErr, IfOk, OnOk, string_bytes};
+ghost use Rattle.cue_desk.specs.declared.ending.Ending.TheVariants.{Failed, Refused};
+ghost use Rattle.cuedesk.specs.Reporting as reporting;
+
 mod marking;
 
+use cue_curtain::marks_in;
 use cue_desk::ending::Ending;
 use cue_desk_line::{End, Form, Report};
 use cue_files_run::read_file;
@@ -30,7 +35,9 @@ fn names_of(alloc: Global, title: &str, file: &ShowFile) -> Result<Names, AllocE
 }
 
 // Why a log was not read.
-fn unread<R: Eprint>(rt: &R, path: &str, why: &io::Error) -> Ending {
+fn unread<R: Eprint>(rt: &R, path: &str, why: &io::Error) -> Ending
+    ensures { result ≡ Failed }
+{
     say(rt, format_args!("{path}: {why}"));
     Ending::Failed
 }
@@ -39,17 +46,11 @@ fn unread<R: Eprint>(rt: &R, path: &str, why: &io::Error) -> Ending {
 fn read_marks<R: Files<File = File> + AllocGlobal>(rt: &R, path: &str) -> io::Result<Marks> {
     let mut text = Vec::new(rt.alloc());
     let _ = File::open(rt, path)?.read_to_end(&mut text)?;
-    let mut marks = Marks::new(rt.alloc());
-    for line in text.split(|byte| *byte == b'\n') {
-        if !line.is_empty() {
-            marks.read(line)?;
-        }
-    }
-    Ok(marks)
+    Ok(marks_in(rt.alloc(), &text)?)
 }
 
 // The marks of a file, if one is said; none else.
-fn marks_in<R: Files<File = File> + Eprint + AllocGlobal>(
+fn said_marks<R: Files<File = File> + Eprint + AllocGlobal>(
     rt: &R,
     path: Option<&str>,
 ) -> Result<Marks, Ending> {
@@ -89,14 +90,32 @@ fn hear<R: Files<File = File> + AllocGlobal>(
     heard
 }
 
-// The report as text: each line with its end.
-fn text_of(told: Told<'_>, evening: &Evening) -> Result<String, AllocError> {
-    let mut text = String::new(told.alloc);
-    for line in text::report_lines(told, evening)? {
-        text.push_str(line.as_str())?;
-        text.push('\n')?;
+// Puts a line with its end after the others.
+fn push_line(text: &mut String, line: &str) -> Result<(), AllocError>
+    ensures { OnOk result (string_bytes text.new ≡ string_bytes text.old ++ reporting.line_text line.now) }
+{
+    text.push_str(line)?;
+    text.push_str("\n")
+}
+
+// Each line with its end.
+fn joined(alloc: Global, lines: &[String]) -> Result<String, AllocError>
+    ensures { IfOk result (λ text. string_bytes text ≡ reporting.joined lines.now) }
+{
+    let mut text = String::new(alloc);
+    for line in lines {
+        push_line(&mut text, line.as_str())?;
     }
     Ok(text)
+}
+
+// The report as text.
+fn text_of(told: Told<'_>, evening: &Evening) -> Result<String, AllocError>
+    ensures { IfOk result (λ text. reporting.HasFitLines (string_bytes text)) }
+{
+    let alloc = told.alloc;
+    let lines = text::report_lines(told, evening)?;
+    joined(alloc, &lines)
 }
 
 // The report of an evening that was heard, with the names of a show file.
@@ -120,7 +139,9 @@ fn report_of(
 }
 
 // An end of what is told, as the report knows it.
-fn end_of(said: Option<End>) -> ends::End {
+fn end_of(said: Option<End>) -> ends::End
+    ensures { result ≡ reporting.end_of said }
+{
     match said {
         None => ends::End::Clock(None),
         Some(End::Minute(minute)) => ends::End::Clock(Some(minute)),
@@ -128,24 +149,31 @@ fn end_of(said: Option<End>) -> ends::End {
     }
 }
 
-// Why the marks of a file give nothing to tell.
-fn no_range<R: Eprint>(rt: &R, path: &str, why: NoRange) -> Ending {
-    let why = match why {
+// Why marks give nothing to tell, in words.
+fn range_words(why: NoRange) -> &'static str
+    ensures { result.now ≡ reporting.range_words why }
+{
+    match why {
         NoRange::NeverUp => "no line says `curtain up`, where the report would begin",
         NoRange::NeverDown => "no line says `curtain down`, where the report would end",
         NoRange::DownBeforeUp => "the last `curtain down` is before the first `curtain up`",
-    };
+    }
+}
+
+// Says why the marks of a file give nothing to tell.
+fn no_range<R: Eprint>(rt: &R, path: &str, why: NoRange) -> Ending
+    ensures { result ≡ Refused }
+{
+    let why = range_words(why);
     say(rt, format_args!("{path}: {why}"));
     Ending::Refused
 }
 
 // Which part of an evening is told.
-fn range_in<R: Eprint>(
-    rt: &R,
-    report: &Report,
-    marks: &Marks,
-    ahead: i64,
-) -> Result<Range, Ending> {
+fn range_in<R: Eprint>(rt: &R, report: &Report, marks: &Marks, ahead: i64) -> Result<Range, Ending>
+    ensures told { IfOk result (λ range. reporting.IsTold report.now marks.now.list.items ahead range) }
+    ensures refused { IfErr result (λ ending. ending ≡ Refused) }
+{
     let (from, to) = (end_of(report.from), end_of(report.to));
     match range_of(from, to, &marks.list, ahead) {
         Ok(range) => Ok(range),
@@ -158,7 +186,7 @@ fn evening_of<R: Files<File = File> + Eprint + AllocGlobal>(
     rt: &R,
     report: &Report,
 ) -> Result<Evening, Ending> {
-    let marks = marks_in(rt, report.marks.as_deref())?;
+    let marks = said_marks(rt, report.marks.as_deref())?;
     let mut evening = Evening::new(rt.alloc());
     evening.ahead = i64::from(report.ahead) * 60;
     evening.range = range_in(rt, report, &marks, evening.ahead)?;

@@ -1,4 +1,9 @@
 //! The command `mark`: when the curtain goes up or down, in a file beside the log.
+ghost use Rattle.std.specs.Prelude.{IfOk, OnOk, string_bytes};
+ghost use Rattle.cue_report.specs.Marks.{IsLineOf};
+ghost use Rattle.cuedesk.specs.Marking as marking;
+
+use cue_curtain::text_after;
 use cue_desk::ending::Ending;
 use cue_report::marks::{Curtain, Mark, mark_line};
 use cue_saying::{print, say};
@@ -6,16 +11,16 @@ use std::fs::{self, File, Files, OpenOptions};
 use std::io::{self, Eprint, ErrorKind, Read, Seek, SeekFrom, Write};
 use std::time::Clock;
 
-// Whether the last line of a file has its end, or it has no line: else what is put after it would be a part of it.
-fn ends_whole(file: &mut File) -> io::Result<bool> {
+// The last byte of a file; none if it is empty.
+fn last_of(file: &mut File) -> io::Result<Option<u8>> {
     let len = file.metadata()?.len();
     if len == 0 {
-        return Ok(true);
+        return Ok(None);
     }
     let mut last = [0];
     file.seek(SeekFrom::Start(len - 1))?;
     file.read_exact(&mut last)?;
-    Ok(last[0] == b'\n')
+    Ok(Some(last[0]))
 }
 
 // Opens a file to put a line after its others; it is made if it is not there. A pipe that nobody reads would be waited
@@ -34,12 +39,12 @@ fn open_after<R: Files<File = File>>(rt: &R, path: &str) -> io::Result<File> {
 }
 
 // Puts a line after those of a file.
-fn append<R: Files<File = File>>(rt: &R, path: &str, line: &str) -> io::Result<()> {
+fn append<R: Files<File = File> + AllocGlobal>(rt: &R, path: &str, line: &str) -> io::Result<()> {
     let mut file = open_after(rt, path)?;
-    if !ends_whole(&mut file)? {
-        file.write_all(b"\n")?;
-    }
-    file.write_all(line.as_bytes())
+    let text = text_after(rt.alloc(), last_of(&mut file)?, line)?;
+    let written = file.write_all(text.as_bytes());
+    drop(text);
+    written
 }
 
 /// Puts a mark with the time of this machine after those of a file: its line.
@@ -47,7 +52,9 @@ pub fn write_mark<R: Files<File = File> + Clock + AllocGlobal>(
     rt: &R,
     path: &str,
     curtain: Curtain,
-) -> io::Result<String> {
+) -> io::Result<String>
+    ensures { IfOk result (λ line. IsLineOf curtain (string_bytes line)) }
+{
     let at = rt.since_1970()?.as_secs();
     let marked = mark_line(rt.alloc(), Mark { at, curtain })?;
     match append(rt, path, marked.as_str()) {
@@ -65,7 +72,9 @@ pub fn mark_curtain<R: Files<File = File> + Clock + Eprint + AllocGlobal, W: Wri
     path: &str,
     curtain: Curtain,
     writer: &mut W,
-) -> Result<(), Ending> {
+) -> Result<(), Ending>
+    ensures { OnOk result (marking.IsSaid curtain (W.contents writer.old) (W.contents writer.new)) }
+{
     match write_mark(rt, path, curtain) {
         Ok(marked) => print(writer, marked.as_str()),
         Err(why) => {

@@ -3,7 +3,6 @@ ghost use Rattle.std.specs.Prelude.{◌≡◌};
 ghost use Rattle.cuedesk.specs.Windows.{window_of};
 
 mod drawing;
-mod screen;
 
 use super::opening::open_desk;
 use super::renewing::{Begun, Renewal, WatchedFile, begin};
@@ -14,9 +13,9 @@ use cue_desk_line::Watched;
 use cue_desk_run::{Beat, Desk, Sources};
 use cue_files_run::open_store;
 use cue_saying::{failed, print, say, say_fault};
+use cue_screen::Screen;
 use cue_show_file::{Group, ShowFile};
 use drawing::joined;
-use screen::Screen;
 use std::fs::{File, Files};
 use std::io::{self, Eprint, Write};
 use std::net::Net;

@@ -1,6 +1,7 @@
 //! The plan of a rehearsal: what does not fit in it is said at once.
-ghost use Rattle.std.specs.Prelude.{◌≡◌, OnOk, []};
+ghost use Rattle.std.specs.Prelude.{◌≡◌, IfOk, OnOk, []};
 ghost use Rattle.cue_rehearsal_plan.specs.Unknown.{unknown_devices};
+ghost use Rattle.cue_rehearsal_run.specs.Planning as planning;
 
 use cue_desk::ending::Ending;
 use cue_rehearsal::{Plan, PlanFault, read_plan};
@@ -39,6 +40,31 @@ pub fn say_unknown<R: Eprint>(rt: &R, at: Option<PlanPlace<'_>>, unknown: &[Devi
     }
 }
 
+// How a command ends that has such a plan.
+fn ending_of(fault: &PlanFault) -> Ending
+    ensures { result ≡ planning.ending_of fault.now }
+{
+    match fault {
+        PlanFault::Memory => Ending::Failed,
+        _ => Ending::Refused,
+    }
+}
+
+// Says why a table is no plan, unless memory ran out. Answers how the command ends.
+fn refused<R: Eprint + AllocGlobal>(
+    rt: &R,
+    at: PlanPlace<'_>,
+    fault: &PlanFault,
+) -> Result<Ending, AllocError>
+    ensures { IfOk result (λ ending. ending ≡ planning.ending_of fault.now) }
+{
+    let ending = ending_of(fault);
+    if ending == Ending::Refused {
+        say_fault(rt, at, fault)?;
+    }
+    Ok(ending)
+}
+
 /// The plan of a show file, of which this is all that TOML reads; else what is wrong with it is on standard error.
 pub fn plan_of<R: Eprint + AllocGlobal>(
     rt: &R,
@@ -47,11 +73,7 @@ pub fn plan_of<R: Eprint + AllocGlobal>(
 ) -> Result<Plan, Ending> {
     match read_plan(rt.alloc(), table) {
         Ok(plan) => Ok(plan),
-        Err(PlanFault::Memory) => Err(Ending::Failed),
-        Err(fault) => {
-            say_fault(rt, at, &fault)?;
-            Err(Ending::Refused)
-        }
+        Err(fault) => Err(refused(rt, at, &fault)?),
     }
 }
 

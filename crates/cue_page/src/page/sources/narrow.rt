@@ -20,7 +20,8 @@ pub(super) const TEXT: &str = r#"
 .low .alarm { padding: 0 .8rem; }
 .low .alarm.loudest { font-size: 1.1rem; padding: .1rem .8rem; }
 .low main { padding: .3rem .8rem; gap: .8rem; grid-template-columns: 3fr minmax(11rem, 2fr); }
-.low #next-box { display: flex; gap: .6rem; align-items: baseline; }
+.low #next-box { display: flex; gap: .6rem; align-items: baseline; position: sticky; top: 0; z-index: 1;
+  background: var(--ground); }
 .low .next { flex: 1; display: flex; flex-wrap: wrap; gap: 0 .6rem; align-items: baseline; padding: .1rem .6rem;
   margin: 0 0 .2rem; min-width: 0; }
 .low .next strong { font-size: 1.15rem; }

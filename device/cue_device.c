@@ -7,7 +7,7 @@
  * function is ACSL. tests/runs/device-acsl proves them by Frama-C, with the definitions of device/acsl, whose table is
  * made of docs/device-table.csv. tests/runs/device-c compares the file with the proved library, call by call.
  *
- * How large it is, by -Os; `tests/runs/device-c --sizes` measures it:
+ * How large it is, with -Os; `tests/runs/device-c --sizes` measures it:
  *
  *     ARM Cortex-M3 and up    clang 14    3.0 KiB of code, at most 230 bytes of stack
  *     ARM Cortex-M3 and up    gcc 12      2.2 KiB of code, at most 230 bytes of stack

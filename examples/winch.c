@@ -63,9 +63,9 @@ static void end(const char *what)
     exit(1);
 }
 
-/* The file is a ring of records, as a flash needs it: each is written beside the last one, so that a loss of power can
- * tear only one that was not acted on. A record is a line: a count that rises, the number, the address and the port in
- * hexadecimal, and a checksum of all of that. */
+/* The file is a ring of records, as a flash needs it: each goes into the slot after the last one, so that a loss of
+ * power can tear only one that was not acted on. A record is a line: a count that rises, the number, the address and
+ * the port in hexadecimal, and a checksum of all of that. */
 enum { SLOTS = 8, SUMMED = 36, LINE = 45 };
 
 /* The checksum: CRC-32. */

@@ -157,13 +157,13 @@ static inline uint32_t cue_restarted(struct cue_device *device, uint32_t number,
 
 /* Names the one sender whose datagrams the device hears from now on, by its address and port; no place: it hears each
  * sender. Call it after cue_new or cue_restarted, if you know the controller's or the relay's: docs/DEVICES.md, 14a. A
- * number that a stranger makes up could else keep the device from each later cue. Gives CUE_NO_ORDER. */
+ * number that a stranger makes up could otherwise keep the device from every later cue. Gives CUE_NO_ORDER. */
 static inline uint32_t cue_hear_only(struct cue_device *device, const struct cue_place *sender)
 {
     return device == NULL || sender == NULL ? (uint32_t)CUE_BAD_CALL : cue_device_hear_only(device, sender);
 }
 
-/* A datagram of `length` bytes has come from there: call it for each one, also while the machine works. Gives what the
+/* A datagram of `length` bytes has come from there: call it for each one, even while the machine works. Gives what the
  * machine is to do now, for the attempt `device.last`. If that number or `device.controller` is not what you have
  * stored (compare with that, not with the call before), write both where they survive a loss of power, before you carry
  * the order out or send the answer. If it cannot be written, neither act nor answer, and reset: the struct already

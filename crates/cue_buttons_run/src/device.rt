@@ -1,9 +1,9 @@
 //! The device that stands at a path.
 ghost use Rattle.std.specs.Prelude.{◌≡◌, None, length};
-ghost use Rattle.cue_buttons_run.specs.Telling.{EndsAt, IsWithin, TakesOff};
+ghost use Rattle.cue_buttons.specs.Telling.{EndsAt, IsWithin, TakesOff};
 ghost use Rattle.cue_buttons_run.specs.Waiting.{found_nothing, was_interrupted};
 
-use crate::jack::{Came, Jack};
+use cue_buttons::{Came, Jack};
 use mio::unix::SourceFd;
 use mio::{Interest, Registry, Token};
 use std::fs::{self, File, Files, Metadata, OpenOptions};
@@ -31,8 +31,10 @@ struct Device {
 
 /// The jack of the device at a path. It shows nothing of what it told.
 #[derive(Drop)]
-pub struct PathJack<'a> {
+pub struct PathJack<'a, R> {
+    rt: &'a R,
     path: &'a str,
+    registry: Registry,
     device: Option<Device>,
 }
 
@@ -83,7 +85,7 @@ fn wake(registry: &Registry, file: &File) {
 }
 
 // Reads what is there, into this room: no byte is made up, none is lost, and none is read twice.
-#[tactic(auto, using(crate::proofs::TellingLemmas::takes_none))]
+#[tactic(auto, using(cue_buttons::proofs::TellingLemmas::takes_none))]
 fn read_from<F: Read>(file: &mut F, room: &mut [u8]) -> Came
     ensures within { IsWithin result (length room.new) }
     ensures takes { TakesOff result room.new (F.remaining file.old) (F.remaining file.new) }
@@ -117,28 +119,33 @@ impl Device {
     }
 }
 
-impl<'a> PathJack<'a> {
-    /// The jack at this path; nothing is open.
-    pub fn new(path: &'a str) -> PathJack<'a> {
-        PathJack { path, device: None }
+impl<'a, R: Files<File = File>> PathJack<'a, R> {
+    /// The jack at this path; nothing is open. What comes of its device wakes the poll of this registry.
+    pub fn new(rt: &'a R, path: &'a str, registry: Registry) -> PathJack<'a, R> {
+        PathJack {
+            rt,
+            path,
+            registry,
+            device: None,
+        }
     }
 }
 
-impl Jack for PathJack<'_> {
+impl<R: Files<File = File>> Jack for PathJack<'_, R> {
     ghost told = { λ _. None };
 
     fn is_open(&self) -> bool {
         self.device.is_some()
     }
 
-    fn open<R: Files<File = File>>(&mut self, rt: &R, registry: &Registry) -> io::Result<()> {
-        self.device = Some(Device::open(rt, registry, self.path)?);
+    fn open(&mut self) -> io::Result<()> {
+        self.device = Some(Device::open(self.rt, &self.registry, self.path)?);
         Ok(())
     }
 
-    fn is_here<R: Files<File = File>>(&self, rt: &R) -> bool {
+    fn is_here(&self) -> bool {
         match &self.device {
-            Some(device) => device.is_at(rt, self.path),
+            Some(device) => device.is_at(self.rt, self.path),
             None => false,
         }
     }

@@ -3,18 +3,13 @@
 ghost use Rattle.std.specs.Prelude.{◌≡◌, ◌+◌, ◌≤◌, [], filter, length, vec_capacity, IfOk};
 ghost use Rattle.cue_web.specs.Admitting.{Admits, Come, newest};
 ghost use Rattle.cue_connection.specs.Stages.{AsksOnce};
-ghost use Rattle.cue_web.specs.Serving.{HasRound, OnlyAsked, Serves, ServesEach, is_here};
+ghost use Rattle.cue_web.specs.Serving.{HasRound, OnlyAsked, Serves, ServesEach, are_here};
 
 use crate::pages::Pages;
+use crate::stream::{Door, Stream};
 use crate::wire::Wire;
-use cue_desk_run::Desk;
-use mio::net::{TcpListener, TcpStream};
-use mio::{Interest, Registry, Token};
+use cue_desk_rounds::{Desk, World};
 use std::alloc::{AllocError, Global};
-use std::fs::{File, Files};
-use std::io;
-use std::net::{IpAddr, Ipv4Addr, Net, SocketAddr};
-use std::time::Clock;
 
 /// The most connections that are open at once.
 const MAX_CONNECTIONS: usize = 128;
@@ -22,39 +17,29 @@ const MAX_CONNECTIONS: usize = 128;
 /// The most that are taken in one round: each of them is heard before it may have to give way.
 const MAX_ADMITTED: usize = 64;
 
-/// The token of the listener in a poll, and that of each connection.
-const LISTENER: Token = Token(0);
-
-const CONNECTION: Token = Token(1);
-
 /// The connections, and where they come from.
 #[derive(Drop)]
-pub struct Connections {
-    listener: TcpListener,
+pub struct Connections<D>
+where
+    D: Door,
+{
+    door: D,
     // Those that are here, in the order in which they came.
-    here: Vec<Wire>,
-}
-
-// The next connection that waits; none if there is none.
-fn next_stream(listener: &TcpListener, registry: &Registry) -> Option<TcpStream> {
-    let (mut stream, _) = listener.accept().ok()?;
-    let both = Interest::READABLE | Interest::WRITABLE;
-    registry.register(&mut stream, CONNECTION, both).ok()?;
-    Some(stream)
+    here: Vec<Wire<D::Stream>>,
 }
 
 // Hears one connection, and answers what it asks: once, and then it asks nothing more. One for whose answer there is no
 // memory is closed without one.
 #[tactic(auto, using(crate::proofs::ServeLemmas::served, crate::proofs::ServeLemmas::unasked, crate::proofs::ServeLemmas::once_over))]
-fn serve_one<R: Files<File = File> + Net + Clock + AllocGlobal>(
+fn serve_one<S: Stream, W: World + Drop>(
     alloc: Global,
-    connection: &mut Wire,
-    desk: &mut Desk<'_, R>,
+    connection: &mut Wire<S>,
+    desk: &mut Desk<'_, W>,
     pages: &mut Pages<'_>,
     now: u64,
 )
-    ensures serves { Serves pages.old.identity pages.old.guard pages.new.guard now connection.old connection.new
-        desk.old.station desk.new.station desk.old.view desk.new.view }
+    ensures serves { Serves pages.old.identity pages.old.guard pages.new.guard now connection.old.connection
+        connection.new.connection desk.old.station desk.new.station desk.old.view desk.new.view }
     ensures once { AsksOnce connection.old.connection.stage connection.new.connection.stage }
     ensures identity { pages.new.identity ≡ pages.old.identity }
 {
@@ -69,15 +54,15 @@ fn serve_one<R: Files<File = File> + Net + Clock + AllocGlobal>(
 
 // The same, and goes on with its answer: what it said stays, and it does not ask again.
 #[tactic(auto, using(crate::proofs::ServeLemmas::serves_on, crate::proofs::ServeLemmas::once_then))]
-fn serve_next<R: Files<File = File> + Net + Clock + AllocGlobal>(
+fn serve_next<S: Stream, W: World + Drop>(
     alloc: Global,
-    connection: &mut Wire,
-    desk: &mut Desk<'_, R>,
+    connection: &mut Wire<S>,
+    desk: &mut Desk<'_, W>,
     pages: &mut Pages<'_>,
     now: u64,
 )
-    ensures serves { Serves pages.old.identity pages.old.guard pages.new.guard now connection.old connection.new
-        desk.old.station desk.new.station desk.old.view desk.new.view }
+    ensures serves { Serves pages.old.identity pages.old.guard pages.new.guard now connection.old.connection
+        connection.new.connection desk.old.station desk.new.station desk.old.view desk.new.view }
     ensures once { AsksOnce connection.old.connection.stage connection.new.connection.stage }
     ensures identity { pages.new.identity ≡ pages.old.identity }
 {
@@ -86,10 +71,10 @@ fn serve_next<R: Files<File = File> + Net + Clock + AllocGlobal>(
 }
 
 // Serves each of these connections, one after the other.
-fn serve_each<R: Files<File = File> + Net + Clock + AllocGlobal>(
+fn serve_each<S: Stream, W: World + Drop>(
     alloc: Global,
-    here: &mut Vec<Wire>,
-    desk: &mut Desk<'_, R>,
+    here: &mut Vec<Wire<S>>,
+    desk: &mut Desk<'_, W>,
     pages: &mut Pages<'_>,
     now: u64,
 )
@@ -103,7 +88,7 @@ fn serve_each<R: Files<File = File> + Net + Clock + AllocGlobal>(
 }
 
 // Sends away those that have waited longest, if more are here than may be: they stand in the order in which they came.
-fn make_room(here: &mut Vec<Wire>)
+fn make_room<S: Stream + Drop>(here: &mut Vec<Wire<S>>)
     ensures newest { here.new.items ≡ newest here.old.items }
     ensures room { vec_capacity here.new ≡ vec_capacity here.old }
 {
@@ -114,41 +99,37 @@ fn make_room(here: &mut Vec<Wire>)
 }
 
 // Drops those that are gone.
-fn drop_gone(here: &mut Vec<Wire>)
-    ensures stay { here.new.items ≡ filter is_here here.old.items }
+fn drop_gone<S: Stream + Drop>(here: &mut Vec<Wire<S>>)
+    ensures stay { here.new.items ≡ filter are_here here.old.items }
     ensures room { vec_capacity here.new ≡ vec_capacity here.old }
 {
     here.retain(|connection| connection.is_here());
 }
 
-impl Connections {
-    /// Listens at this port of 127.0.0.1 alone. Nobody is here yet.
-    pub fn new<R: Net + AllocGlobal>(
-        rt: &R,
-        registry: &Registry,
-        port: u16,
-    ) -> io::Result<Connections>
+impl<D: Door + Drop> Connections<D> {
+    /// The connections that come from this door. Nobody is here yet.
+    pub fn new(alloc: Global, door: D) -> Result<Connections<D>, AllocError>
         ensures nobody { IfOk result (λ connections. connections.here.items ≡ []) }
         ensures room { IfOk result (λ connections.
             MAX_CONNECTIONS + MAX_ADMITTED ≤ vec_capacity connections.here) }
     {
-        let address = SocketAddr::new(IpAddr::V4(Ipv4Addr::LOCALHOST), port);
-        let mut listener = TcpListener::bind(rt, address)?;
-        registry.register(&mut listener, LISTENER, Interest::READABLE)?;
-        Ok(Connections {
-            listener,
-            here: Vec::with_capacity(rt.alloc(), MAX_CONNECTIONS + MAX_ADMITTED)?,
-        })
+        match Vec::with_capacity(alloc, MAX_CONNECTIONS + MAX_ADMITTED) {
+            Ok(here) => Ok(Connections { door, here }),
+            Err(why) => {
+                drop(door);
+                Err(why)
+            }
+        }
     }
 
     // Takes those that wait, one after the other, and drops one for which there is no memory. Answers whether more may
     // wait.
-    fn take_waiting(&mut self, alloc: Global, registry: &Registry, now: u64) -> bool
+    fn take_waiting(&mut self, alloc: Global, poll: &D::Poll, now: u64) -> bool
         ensures come { Come (vec_capacity self.old.here) self.old.here.items self.new.here.items result }
         ensures room { vec_capacity self.old.here ≤ vec_capacity self.new.here }
     {
         for _ in 0..MAX_ADMITTED {
-            let Some(stream) = next_stream(&self.listener, registry) else {
+            let Some(stream) = self.door.next(poll) else {
                 return false;
             };
             let _ = self.here.push(Wire::new(alloc, stream, now));
@@ -158,12 +139,12 @@ impl Connections {
 
     /// Takes the connections that wait. Answers whether more of them may: then the next round must not be waited for.
     #[tactic(auto, using(crate::proofs::AdmitLemmas::admits, crate::proofs::AdmitLemmas::newest_few))]
-    pub fn admit(&mut self, alloc: Global, registry: &Registry, now: u64) -> bool
+    pub fn admit(&mut self, alloc: Global, poll: &D::Poll, now: u64) -> bool
         ensures admits { Admits (vec_capacity self.old.here) self.old.here.items self.new.here.items result }
         ensures few { length self.new.here.items ≤ MAX_CONNECTIONS }
         ensures room { vec_capacity self.old.here ≤ vec_capacity self.new.here }
     {
-        let may_wait = self.take_waiting(alloc, registry, now);
+        let may_wait = self.take_waiting(alloc, poll, now);
         make_room(&mut self.here);
         may_wait
     }
@@ -171,10 +152,10 @@ impl Connections {
     /// One round over all connections. Each is served once, and none asks again that has asked; the desk hears no other
     /// press.
     #[tactic(auto, using(crate::proofs::RoundLemmas::has_round, crate::proofs::RoundLemmas::round_asked))]
-    pub fn serve<R: Files<File = File> + Net + Clock + AllocGlobal>(
+    pub fn serve<W: World + Drop>(
         &mut self,
         alloc: Global,
-        desk: &mut Desk<'_, R>,
+        desk: &mut Desk<'_, W>,
         pages: &mut Pages<'_>,
         now: u64,
     )

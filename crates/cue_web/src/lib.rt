@@ -1,6 +1,7 @@
-//! The page, served to the browsers of this machine: connections that keep nobody waiting, and what each is answered.
+//! The page, served to browsers: connections that keep nobody waiting, and what each is answered. Nothing here opens a
+//! socket: browsers come by a `Door`, each with its way (`Stream`).
 //!
-//! A request is read by `cue_request`; a press is one step of the desk (`cue_desk_run`), and its answer is the view
+//! A request is read by `cue_request`; a press is one step of the desk (`cue_desk_rounds`), and its answer is the view
 //! that follows. A round never waits: `Connections::admit` takes the connections that wait, at most 64, and
 //! `Connections::serve` hears and answers each. If memory runs out while an answer is made, that connection is closed,
 //! and the others go on.
@@ -23,8 +24,10 @@
 
 mod connections;
 mod pages;
+mod stream;
 mod wire;
 
 pub use connections::Connections;
 pub use cue_connection::CurtainMove;
 pub use pages::{Beside, Pages};
+pub use stream::{Door, Stream};

@@ -10,7 +10,7 @@ use cue_connection::{
     Answer, Asking, CurtainMove, Pressed, json_answer, refused_answer, trouble_answer,
 };
 use cue_core::State;
-use cue_desk_run::Desk;
+use cue_desk_rounds::{Desk, World};
 use cue_page::board::{CurtainMark, Manner, Standing, view_text};
 use cue_page::page::{page_text, policy};
 use cue_request::answering::{Kind, NOTHING, Outcome, answer};
@@ -20,9 +20,6 @@ use cue_request::request::Refusal;
 use cue_show_file::{Group, ShowFile, of_show, written};
 use cue_whereabouts::Difference;
 use std::alloc::{AllocError, Global};
-use std::fs::{File, Files};
-use std::net::Net;
-use std::time::Clock;
 
 /// What a press is answered that could not be heard.
 const NO_MEMORY: &str = "the desk is out of memory: nothing was sent";
@@ -196,11 +193,7 @@ impl<'a> Pages<'a> {
     }
 
     // Draws the newest view, if it is not drawn yet.
-    fn draw<R: Files<File = File> + Net + Clock + AllocGlobal>(
-        &mut self,
-        desk: &Desk<'_, R>,
-        alloc: Global,
-    ) -> Result<(), AllocError>
+    fn draw<W: World + Drop>(&mut self, desk: &Desk<'_, W>, alloc: Global) -> Result<(), AllocError>
         ensures identity { self.new.identity ≡ self.old.identity }
         ensures guard { self.new.guard ≡ self.old.guard }
         ensures waiting { self.new.waiting ≡ self.old.waiting }
@@ -225,9 +218,9 @@ impl<'a> Pages<'a> {
     }
 
     // The newest view. Ten who ask for it cost one drawing.
-    fn view_answer<R: Files<File = File> + Net + Clock + AllocGlobal>(
+    fn view_answer<W: World + Drop>(
         &mut self,
-        desk: &Desk<'_, R>,
+        desk: &Desk<'_, W>,
         alloc: Global,
     ) -> Result<String, AllocError>
         ensures identity { self.new.identity ≡ self.old.identity }
@@ -239,9 +232,9 @@ impl<'a> Pages<'a> {
     }
 
     // The view that follows this press, which the lock lets through.
-    fn heard_answer<R: Files<File = File> + Net + Clock + AllocGlobal>(
+    fn heard_answer<W: World + Drop>(
         &mut self,
-        desk: &mut Desk<'_, R>,
+        desk: &mut Desk<'_, W>,
         alloc: Global,
         pressed: &Pressed,
     ) -> Result<String, AllocError>
@@ -258,9 +251,9 @@ impl<'a> Pages<'a> {
     }
 
     // The view that follows this press, or why the lock refuses it.
-    fn pressed_answer<R: Files<File = File> + Net + Clock + AllocGlobal>(
+    fn pressed_answer<W: World + Drop>(
         &mut self,
-        desk: &mut Desk<'_, R>,
+        desk: &mut Desk<'_, W>,
         alloc: Global,
         pressed: &Pressed,
         now: u64,
@@ -278,9 +271,9 @@ impl<'a> Pages<'a> {
     }
 
     // What the body of a press is answered: one that is none is refused.
-    fn press_answer<R: Files<File = File> + Net + Clock + AllocGlobal>(
+    fn press_answer<W: World + Drop>(
         &mut self,
-        desk: &mut Desk<'_, R>,
+        desk: &mut Desk<'_, W>,
         alloc: Global,
         press: &Option<Pressed>,
         now: u64,
@@ -298,9 +291,9 @@ impl<'a> Pages<'a> {
     }
 
     // What a mark is answered: the newest view, or why it is not written down.
-    fn mark_answer<R: Files<File = File> + Net + Clock + AllocGlobal>(
+    fn mark_answer<W: World + Drop>(
         &mut self,
-        desk: &Desk<'_, R>,
+        desk: &Desk<'_, W>,
         alloc: Global,
         curtain: CurtainMove,
     ) -> Result<String, AllocError>
@@ -320,9 +313,9 @@ impl<'a> Pages<'a> {
     }
 
     // The show as a show file: the one that was handed in, else that of the store.
-    fn file_answer<R: Files<File = File> + Net + Clock + AllocGlobal>(
+    fn file_answer<W: World + Drop>(
         &self,
-        desk: &Desk<'_, R>,
+        desk: &Desk<'_, W>,
         alloc: Global,
     ) -> Result<String, AllocError> {
         let text = match (&self.beside.file, desk.state()) {
@@ -334,9 +327,9 @@ impl<'a> Pages<'a> {
     }
 
     /// What a connection is answered that asks this now.
-    pub fn answer<R: Files<File = File> + Net + Clock + AllocGlobal>(
+    pub fn answer<W: World + Drop>(
         &mut self,
-        desk: &mut Desk<'_, R>,
+        desk: &mut Desk<'_, W>,
         alloc: Global,
         asking: &Asking,
         now: u64,

@@ -6,12 +6,11 @@ ghost use Rattle.cue_connection.specs.Stages.{AsksOnce, is_asking};
 ghost use Rattle.cue_connection.specs.declared.connection.TheConstants.{PATIENCE};
 ghost use Rattle.cue_web.specs.Serving.{IsDropped, IsWithin, is_here};
 
+use crate::stream::Stream;
 use cue_connection::{Answer, Asking, Connection, Stage};
 use cue_request::identity::PageIdentity;
-use mio::net::TcpStream;
 use std::alloc::Global;
-use std::io::{ErrorKind, Read, Write};
-use std::net::Shutdown;
+use std::io::ErrorKind;
 
 /// How many bytes are read at once.
 const PIECE: usize = 1024;
@@ -33,15 +32,15 @@ enum Came {
     Broken,
 }
 
-/// A connection over its socket.
+/// A connection over the way to its browser.
 #[derive(Drop)]
-pub struct Wire {
-    stream: TcpStream,
+pub struct Wire<S> {
+    stream: S,
     connection: Connection,
 }
 
 // Reads what is there, into this room.
-fn read_from<S: Read>(stream: &mut S, room: &mut [u8]) -> Came
+fn read_from<S: Stream>(stream: &mut S, room: &mut [u8]) -> Came
     ensures { IsWithin result (length room.new) }
 {
     match stream.read(room) {
@@ -55,9 +54,9 @@ fn read_from<S: Read>(stream: &mut S, room: &mut [u8]) -> Came
     }
 }
 
-impl Wire {
+impl<S: Stream> Wire<S> {
     /// A connection that begins now.
-    pub fn new(alloc: Global, stream: TcpStream, now: u64) -> Wire
+    pub fn new(alloc: Global, stream: S, now: u64) -> Wire<S>
         ensures fresh { IsFresh result.connection }
         ensures soon { result.connection.until ≤ now + PATIENCE }
     {
@@ -69,7 +68,7 @@ impl Wire {
 
     /// Whether it is still there.
     pub fn is_here(&self) -> bool
-        ensures { result ≡ is_here self.now }
+        ensures { result ≡ is_here self.now.connection }
     {
         self.connection.is_here()
     }
@@ -150,7 +149,7 @@ impl Wire {
         ensures once { AsksOnce self.old.connection.stage self.new.connection.stage }
         ensures input { self.new.connection.input ≡ self.old.connection.input }
     {
-        match self.stream.shutdown(Shutdown::Write) {
+        match self.stream.finish() {
             Ok(()) => self.connection.finish(),
             Err(_) => self.connection.leave(),
         }

@@ -48,7 +48,10 @@ pub fn window_of(is_once: bool, given: Option<u16>) -> Option<u16>
 
 /// The board of one desk.
 #[derive(Drop)]
-struct Board<'a, R> {
+struct Board<'a, R>
+where
+    R: Files<File = File> + Net + Clock + AllocGlobal,
+{
     rt: &'a R,
     desk: Desk<'a, R>,
     dir: &'a str,

@@ -1,10 +1,11 @@
 //! The command `buttons`: a real desk presses over MIDI what the page would press.
 use super::opening::{groups_and_port, open_desk};
 use super::sign::{REHEARSAL, sign_of};
-use cue_buttons_run::{Console, hear_all};
+use cue_buttons::Console;
+use cue_buttons_run::hear_all;
 use cue_desk::ending::Ending;
 use cue_desk_line::Buttons;
-use cue_desk_run::Sources;
+use cue_desk_run::{NetWorld, Sources};
 use cue_panel::Setting;
 use cue_saying::say;
 use cue_show_file::Group;
@@ -19,7 +20,7 @@ fn open_console<'a, R: Files<File = File> + Net + Clock + Eprint + AllocGlobal>(
     buttons: &'a Buttons,
     together: &'a [Group],
     port: u16,
-) -> Result<Console<'a, R>, Ending> {
+) -> Result<Console<'a, R, NetWorld<'a, R>>, Ending> {
     let sources = Sources {
         dir: buttons.dir.as_str(),
         port,

@@ -1,9 +1,9 @@
 //! The words `standby` and `go` without a number, and `go --wait`: a press at a desk without a browser.
 use super::opening::{groups_and_port, open_desk};
-use cue_buttons_run::Hand;
+use cue_buttons::Hand;
 use cue_desk::ending::Ending;
 use cue_desk_line::Pressed;
-use cue_desk_run::Sources;
+use cue_desk_run::{NetWorld, Sources};
 use cue_show_file::Group;
 use std::fs::{File, Files};
 use std::io::{Eprint, Write};
@@ -19,7 +19,7 @@ fn open_hand<'a, R: Files<File = File> + Net + Clock + Eprint + AllocGlobal>(
     pressed: &'a Pressed,
     together: &'a [Group],
     port: u16,
-) -> Result<Hand<'a, R>, Ending> {
+) -> Result<Hand<'a, R, NetWorld<'a, R>>, Ending> {
     let sources = Sources {
         dir: pressed.dir.as_str(),
         port,

@@ -1,7 +1,7 @@
 //! What a command with a desk opens.
 use super::port_of;
 use cue_desk::ending::Ending;
-use cue_desk_run::{Desk, Sources};
+use cue_desk_run::{self, Desk, Sources};
 use cue_files_run::read_file;
 use cue_saying::failed;
 use cue_show_file::{Group, groups_of};
@@ -15,7 +15,7 @@ pub fn open_desk<'a, R: Files<File = File> + Net + Clock + Eprint + AllocGlobal>
     rt: &'a R,
     sources: &Sources<'a>,
 ) -> Result<Desk<'a, R>, Ending> {
-    match Desk::new(rt, sources) {
+    match cue_desk_run::open_desk(rt, sources) {
         Ok(desk) => Ok(desk),
         Err(why) => Err(failed(rt, &why)),
     }

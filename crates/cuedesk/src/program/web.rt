@@ -15,7 +15,8 @@ use cue_desk_run::{Desk, Sources};
 use cue_request::identity::{PageIdentity, Purpose};
 use cue_saying::{failed, print, say, say_fault};
 use cue_show_file::Group;
-use cue_web::{Beside, Connections, Pages};
+use cue_web::{Beside, Pages};
+use cue_web_run::{Connections, listen as listen_at};
 use hex::encode;
 pub use keeping::{devices_path, hear_devices};
 use keeping::{keep_all, say_loss};
@@ -37,7 +38,10 @@ const TOKEN_BYTES: usize = 16;
 
 /// What serves a page.
 #[derive(Drop)]
-struct Server<'a, R> {
+struct Server<'a, R>
+where
+    R: Files<File = File> + Net + Clock + AllocGlobal,
+{
     rt: &'a R,
     desk: Desk<'a, R>,
     pages: Pages<'a>,
@@ -141,7 +145,7 @@ impl<R: Files<File = File> + Net + Clock + Eprint + AllocGlobal> Server<'_, R> {
     {
         let alloc = self.rt.alloc();
         let now = self.desk.now()?;
-        let is_waited_for = connections.admit(alloc, self.desk.registry(), now);
+        let is_waited_for = connections.admit(alloc, self.desk.world().registry(), now);
         connections.serve(alloc, &mut self.desk, &mut self.pages, now);
         Ok(is_waited_for)
     }
@@ -213,7 +217,7 @@ fn listen<R: Files<File = File> + Net + Clock + Eprint + AllocGlobal>(
     desk: &Desk<'_, R>,
     port: u16,
 ) -> Result<Connections, Ending> {
-    match Connections::new(rt, desk.registry(), port) {
+    match listen_at(rt, desk.world().registry(), port) {
         Ok(connections) => Ok(connections),
         Err(why) => {
             say(rt, format_args!("no page at port {port}: {why}"));

@@ -1,0 +1,6 @@
+pub mod Memory
+pub mod Playing
+pub mod Pressing
+pub mod Telling
+pub mod Whole
+pub mod Wishes

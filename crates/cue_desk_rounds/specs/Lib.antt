@@ -1,0 +1,12 @@
+pub mod Alarming
+pub mod Asking
+pub mod Devices
+pub mod Failing
+pub mod Hearing
+pub mod Laws
+pub mod Leaving
+pub mod Looks
+pub mod Readings
+pub mod Relays
+pub mod Shelves
+pub mod Working

@@ -1,1 +1,2 @@
 mod EditingLemmas
+mod HistoryLemmas

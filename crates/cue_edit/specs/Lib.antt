@@ -1,4 +1,6 @@
 pub mod Editing
+pub mod Editor
+pub mod History
 pub mod Laws
 pub mod Outcome
 pub mod Rewriting

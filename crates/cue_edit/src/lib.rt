@@ -23,12 +23,20 @@
 mod comparing;
 mod edit;
 mod editing;
+mod editor;
 mod finding;
+mod history;
 pub mod laws;
 mod rewriting;
+mod telling;
+mod wish;
 mod words;
 
 pub use edit::{Change, Edit, EditFault, Sign};
 pub use editing::{Edited, apply};
+pub use editor::{EditRefusal, Editor, NewText, file_in, judge_edit};
+pub use history::{History, MAX_STEPS};
 pub use rewriting::Rewrite;
+pub use telling::{made_words, unmade_words};
+pub use wish::{AskedEdit, Wish};
 pub use words::{done_words, refused_words};

@@ -7,4 +7,5 @@ pub mod Network
 pub mod Page
 pub mod Said
 pub mod Stack
+pub mod Steps
 pub mod Whereabouts

@@ -14,6 +14,7 @@ mod marks;
 mod network;
 mod said;
 mod stack;
+mod steps;
 mod whereabouts;
 
 use alarms::alarms_value;
@@ -32,6 +33,8 @@ use said::{said_value, unsent_value};
 use serde_json::{Map, Value, json, put};
 use stack::{next_value, stack_value};
 use std::alloc::{AllocError, Global};
+pub use steps::EditSteps;
+use steps::edits_value;
 pub use whereabouts::Standing;
 use whereabouts::whereabouts_value;
 
@@ -264,6 +267,8 @@ pub struct Manner<'a> {
     pub is_rehearsed: bool,
     /// When the curtain went up and down, in order; none if the page keeps no marks.
     pub marks: Option<&'a [CurtainMark]>,
+    /// What stands of the edits of the show file; none if there is no show file.
+    pub steps: Option<EditSteps>,
 }
 
 // The line about the show file; null if there is none.
@@ -289,8 +294,9 @@ fn page_value(
         file_line_value(alloc, manner)?,
         marks_value(alloc, manner.marks)?,
     );
+    let edits = edits_value(alloc, manner.steps)?;
     json!(in alloc; {
-        "locked": manner.is_locked, "marks": marks, "names": called, "readonly": manner.is_read_only,
+        "edits": edits, "locked": manner.is_locked, "marks": marks, "names": called, "readonly": manner.is_read_only,
         "rehearsed": manner.is_rehearsed, "run": manner.run, "told": told, "view": facts
     })
 }

@@ -1,3 +1,4 @@
 pub mod Admitting
+pub mod Editing
 pub mod Marking
 pub mod Serving

@@ -1,10 +1,10 @@
 -- What a page lets the desk hear.
-use Rattle.std.specs.Prelude.{◌≡◌, ◌⊎◌, ℕ, ◌≤◌, Bool, true, false, List, [], ◌∷◌, map, filter, Option, None, Some}
+use Rattle.std.specs.Prelude.{◌≡◌, ◌⊎◌, ℕ, ◌≤◌, Bool, true, false, List, [], ◌∷◌, map, filter, set, Option, None, Some}
 use Rattle.cue_desk_rounds.specs.Working.{HearsIf, OnlyLooks, Stays}
 use Rattle.cue_request.specs.declared.identity.PageIdentity.{PageIdentity}
 use Rattle.cue_request.specs.declared.lock.Guard.{Guard}
 use Rattle.cue_request.specs.declared.request.Refusal.{Refusal}
-use Rattle.cue_request.specs.Locks.{after_press, verdict_on}
+use Rattle.cue_request.specs.Locks.{after, after_press, verdict_on}
 use Rattle.cue_station.specs.declared.heard.Heard.TheVariants as heard
 use Rattle.cue_station.specs.declared.station.Station.{Station}
 use Rattle.cue_view.specs.declared.view.View.{View}
@@ -14,6 +14,8 @@ use Rattle.cue_connection.specs.declared.asking.Asking.{Asking}
 use Rattle.cue_connection.specs.declared.asking.Asking.TheVariants as asking
 use Rattle.cue_connection.specs.declared.asking.Pressed.{Pressed}
 use Rattle.cue_connection.specs.declared.connection.Connection.{Connection}
+use Rattle.cue_connection.specs.declared.stage.Stage.{Stage}
+use Rattle.cue_connection.specs.declared.stage.Stage.TheVariants as stage
 use Rattle.cue_web.specs.declared.wire.Came.{Came}
 use Rattle.cue_web.specs.declared.wire.Came.TheVariants as came
 use Rattle.cue_web.specs.declared.wire.Wire.{Wire}
@@ -34,10 +36,11 @@ Answers g now (asking.Press (Some p)) old new v v_then =
     HearsUnless (verdict_on p.button g now p.said) p old new v v_then
 Answers g now _ old new v v_then = Stays old new v v_then
 
--- the guard of the lock that this asking leaves: a press is counted as its word is right or wrong, whether it is let
--- through or refused, and nothing else is counted
+-- the guard of the lock that this asking leaves: a press and an edit are counted as their word is right or wrong,
+-- whether they are let through or refused, and nothing else is counted
 abbrev pub guard_after : Guard → ℕ → Asking → Guard
 guard_after g now (asking.Press (Some p)) = after_press p.button g now p.said
+guard_after g now (asking.Edit e) = after g now e.said
 guard_after g now _ = g
 
 -- ---- one connection
@@ -45,6 +48,14 @@ guard_after g now _ = g
 -- it is still there
 abbrev pub is_here : Connection → Bool
 is_here c = is_here_at c.stage
+
+-- it has asked, and waits for its answer
+abbrev pub is_waiting_at : Stage → Bool
+is_waiting_at stage.Asked = true
+is_waiting_at _ = false
+
+abbrev pub is_waiting : {S : Type 0} → Wire S → Bool
+is_waiting w = is_waiting_at w.connection.stage
 
 -- the bytes of a reading stand in its room
 abbrev pub IsWithin : Came → ℕ → Type 0
@@ -147,3 +158,15 @@ pub record HasRound {S : Type 0} (page page_then : PageIdentity) (g g_then : Gua
   pub left : List (Wire S)
   pub served : ServesEach page page_then g g_then now here left old new
   pub stay : here_then ≡ filter are_here left
+
+-- ---- an answer that was waited for
+
+-- one of these that waits asks nothing more, and the others are as they were; if none waits, all are
+pub record IsTold {S : Type 0} (here here_then : List (Wire S)) : Type 0 where
+  pub at : ℕ
+  pub after : Wire S
+  pub over : is_asking after.connection.stage ≡ false
+  pub stand : here_then ≡ set here at after
+
+abbrev pub TellsOne : {S : Type 0} → (here here_then : List (Wire S)) → Type 0
+TellsOne here here_then = IsTold here here_then ⊎ (here_then ≡ here)

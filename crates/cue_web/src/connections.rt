@@ -3,11 +3,12 @@
 ghost use Rattle.std.specs.Prelude.{◌≡◌, ◌+◌, ◌≤◌, [], filter, length, vec_capacity, IfOk};
 ghost use Rattle.cue_web.specs.Admitting.{Admits, Come, newest};
 ghost use Rattle.cue_connection.specs.Stages.{AsksOnce};
-ghost use Rattle.cue_web.specs.Serving.{HasRound, OnlyAsked, Serves, ServesEach, are_here};
+ghost use Rattle.cue_web.specs.Serving.{HasRound, OnlyAsked, Serves, ServesEach, TellsOne, are_here};
 
 use crate::pages::Pages;
 use crate::stream::{Door, Stream};
 use crate::wire::Wire;
+use cue_connection::Answer;
 use cue_desk_rounds::{Desk, World};
 use std::alloc::{AllocError, Global};
 
@@ -28,8 +29,8 @@ where
     here: Vec<Wire<D::Stream>>,
 }
 
-// Hears one connection, and answers what it asks: once, and then it asks nothing more. One for whose answer there is no
-// memory is closed without one.
+// Hears one connection, and answers what it asks: once, and then it asks nothing more. One that asks for an edit waits
+// for its answer. One for whose answer there is no memory is closed without one.
 #[tactic(auto, using(crate::proofs::ServeLemmas::served, crate::proofs::ServeLemmas::unasked, crate::proofs::ServeLemmas::once_over))]
 fn serve_one<S: Stream, W: World + Drop>(
     alloc: Global,
@@ -46,8 +47,9 @@ fn serve_one<S: Stream, W: World + Drop>(
     let Some(asking) = connection.hear(pages.identity(), now) else {
         return;
     };
-    match pages.answer(desk, alloc, &asking, now) {
-        Ok(answer) => connection.tell(answer, now),
+    match pages.answer(desk, alloc, &asking, connection.came(), now) {
+        Ok(Some(answer)) => connection.tell(answer, now),
+        Ok(None) => {}
         Err(AllocError) => connection.leave(),
     }
 }
@@ -147,6 +149,21 @@ impl<D: Door + Drop> Connections<D> {
         let may_wait = self.take_waiting(alloc, poll, now);
         make_room(&mut self.here);
         may_wait
+    }
+
+    /// The one that waits for its answer is given it; if it has gone meanwhile, nobody is. Without an answer it is
+    /// closed. It asks nothing more.
+    pub fn tell_waiting(&mut self, answer: Option<Answer>, now: u64)
+        ensures told { TellsOne self.old.here.items self.new.here.items }
+        ensures room { vec_capacity self.new.here ≡ vec_capacity self.old.here }
+    {
+        let Some(at) = self.here.iter().position(|wire| wire.is_waiting()) else {
+            return;
+        };
+        match answer {
+            Some(answer) => self.here[at].tell(answer, now),
+            None => self.here[at].leave(),
+        }
     }
 
     /// One round over all connections. Each is served once, and none asks again that has asked; the desk hears no other

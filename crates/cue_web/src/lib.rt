@@ -8,7 +8,7 @@
 //!
 //! Why it is so:
 //! - Many connections side by side, each for a second: a browser opens connections before it needs them and says
-//!   nothing on them. At most 128 stay open, each with at most 9 kB. If there is no room for one more, the one that has
+//!   nothing on them. At most 128 stay open, each with at most 13 kB. If there is no room for one more, the one that has
 //!   waited longest is closed; each is heard before that, so hundreds that say nothing keep nobody waiting.
 //! - What the lock counts of wrong words goes from each connection to the next: nobody tries more words by opening more
 //!   of them.
@@ -18,6 +18,8 @@
 //! - A head that grows byte by byte is read when its end has come, and no more often; the page is one text, which each
 //!   connection is lent: who asks slowly, or reads nothing, costs little.
 //! - The text of the newest view is kept until the next view: ten who ask for it cost one drawing.
+//! - An edit of the show file is answered once it is written or refused: it waits in `Pages::take_edit` until all who
+//!   press were heard, so no press waits for a disk behind it in the same round. One edit waits at a time.
 //!
 //! Only tested: how long a connection has, and what it reads and sends.
 #![tactic(auto)]
@@ -28,6 +30,6 @@ mod stream;
 mod wire;
 
 pub use connections::Connections;
-pub use cue_connection::CurtainMove;
+pub use cue_connection::{Answer, CurtainMove};
 pub use pages::{Beside, Pages};
 pub use stream::{Door, Stream};

@@ -4,7 +4,7 @@ ghost use Rattle.cue_connection.specs.Asking.{AsksIn};
 ghost use Rattle.cue_connection.specs.Connecting.{IsFresh};
 ghost use Rattle.cue_connection.specs.Stages.{AsksOnce, is_asking};
 ghost use Rattle.cue_connection.specs.declared.connection.TheConstants.{PATIENCE};
-ghost use Rattle.cue_web.specs.Serving.{IsDropped, IsWithin, is_here};
+ghost use Rattle.cue_web.specs.Serving.{IsDropped, IsWithin, is_here, is_waiting};
 
 use crate::stream::Stream;
 use cue_connection::{Answer, Asking, Connection, Stage};
@@ -118,10 +118,28 @@ impl<S: Stream> Wire<S> {
         }
     }
 
+    /// What came of its request so far.
+    pub fn came(&self) -> &[u8]
+        ensures { result.now ≡ self.now.connection.input.items }
+    {
+        self.connection.came()
+    }
+
+    /// Whether it has asked, and waits for its answer.
+    pub fn is_waiting(&self) -> bool
+        ensures { result ≡ is_waiting self.now }
+    {
+        match self.connection.stage() {
+            Stage::Asked => true,
+            Stage::Asking | Stage::Hearing | Stage::Leaving | Stage::Gone => false,
+        }
+    }
+
     /// Hears what it asks, once, if that has come whole, is refused, came too late or has ended before.
     pub fn hear(&mut self, identity: &PageIdentity<'_>, now: u64) -> Option<Asking>
         ensures asks { IfSome result (AsksIn identity.now self.new.connection.input.items) }
         ensures first { IfSome result (λ _. is_asking self.old.connection.stage ≡ true) }
+        ensures over { IfSome result (λ _. is_asking self.new.connection.stage ≡ false) }
         ensures once { AsksOnce self.old.connection.stage self.new.connection.stage }
     {
         self.read_request();

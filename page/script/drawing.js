@@ -16,6 +16,7 @@ function draw() {
   if (!view) return;
   wasDark = isDark();
   showManner();
+  showEdits();
   showStack();
   showLive();
   showWhereabouts();

@@ -1,6 +1,7 @@
 pub mod Beginning
 pub mod Beside
 pub mod Carrying
+pub mod Changing
 pub mod Devices
 pub mod Marking
 pub mod NewFiles

@@ -5,6 +5,7 @@ mod claims;
 mod clocks;
 mod controls;
 mod drawing;
+mod editing;
 mod elements;
 mod finding;
 mod keys;
@@ -28,7 +29,7 @@ mod windows;
 pub(super) const STYLES: [&str; 4] = [themes::TEXT, layout::TEXT, controls::TEXT, narrow::TEXT];
 
 /// The scripts, in order: what one does at once stands in those before it.
-pub(super) const SCRIPTS: [&str; 19] = [
+pub(super) const SCRIPTS: [&str; 20] = [
     elements::TEXT,
     naming::TEXT,
     windows::TEXT,
@@ -46,6 +47,7 @@ pub(super) const SCRIPTS: [&str; 19] = [
     clocks::TEXT,
     sounding::TEXT,
     locking::TEXT,
+    editing::TEXT,
     drawing::TEXT,
     pressing::TEXT,
 ];
@@ -115,6 +117,23 @@ pub(super) const BODY: &str = r#"">
 <input id="lock-word" type="text" autocomplete="off" spellcheck="false">
 <button id="lock-open" class="small" type="submit">Unlock</button>
 <button id="lock-leave" class="small" type="button">Leave it</button>
+</form>
+<form id="edit" role="dialog" aria-labelledby="edit-title" hidden>
+<b id="edit-title">Edit</b>
+<select id="edit-what" aria-label="What is changed">
+<option value="name">Name</option>
+<option value="note">Note</option>
+<option value="color">Colour</option>
+<option value="flag">Flag</option>
+<option value="place">Place</option>
+<option value="copy">Copy as</option>
+</select>
+<input id="edit-text" type="text" autocomplete="off" spellcheck="false" aria-label="Name">
+<select id="edit-choice" aria-label="Choice" hidden></select>
+<button id="edit-save" class="small" type="submit">Save</button>
+<button id="edit-undo" class="small" type="button" disabled>Undo</button>
+<button id="edit-redo" class="small" type="button" disabled>Redo</button>
+<button id="edit-close" class="small" type="button">Close</button>
 </form>
 <footer aria-label="Commands">
 <div id="words" role="alert">S is STANDBY, space is GO, Esc is CANCEL.</div>

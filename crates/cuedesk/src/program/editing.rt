@@ -49,9 +49,9 @@ fn make_anew<R: Files<File = File>>(rt: &R, path: &str, text: &str, show: &str) 
     file.sync_all()
 }
 
-// Has the show file hold a new text, and the file beside it the one before. At each moment both are whole; a stop
-// between the two steps leaves the show file as it was.
-fn keep_both<R: Files<File = File> + AllocGlobal>(
+/// Has the show file hold a new text, and the file beside it the one before. At each moment both are whole; a stop
+/// between the two steps leaves the show file as it was, and so does a failure. The page writes its edits so, too.
+pub fn keep_both<R: Files<File = File> + AllocGlobal>(
     rt: &R,
     path: &str,
     old: &str,

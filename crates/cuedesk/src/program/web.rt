@@ -2,13 +2,16 @@
 ghost use Rattle.std.specs.Prelude.{◌≡◌};
 ghost use Rattle.cue_web.specs.Serving.{OnlyAsked};
 
+mod changing;
 mod keeping;
+mod showing;
 
 use super::locking::lock_word;
 use super::marks::MarksFile;
 use super::opening::open_desk;
 use super::renewing::{Begun, Renewal, WatchedFile, begin};
 use super::sign::{SignWatch, sign_of};
+use changing::EditedFile;
 use cue_desk::ending::Ending;
 use cue_desk_line::{PageUse, Web};
 use cue_desk_run::{Desk, Sources};
@@ -48,6 +51,7 @@ where
     watch: Option<WatchedFile<'a>>,
     sign: Option<SignWatch>,
     marks: Option<MarksFile<'a>>,
+    edited: EditedFile<'a>,
     // When the last round began.
     last: u64,
 }
@@ -74,7 +78,7 @@ impl<R: Files<File = File> + Net + Clock + Eprint + AllocGlobal> Server<'_, R> {
         };
         let Renewal { file, told } = watch.renew(self.rt, &self.desk)?;
         if let Some(file) = file {
-            self.pages.put_file(file);
+            self.show_other(file);
         }
         if let Ok(told) = told {
             self.pages.tell(told);
@@ -169,6 +173,7 @@ impl<R: Files<File = File> + Net + Clock + Eprint + AllocGlobal> Server<'_, R> {
     {
         self.wake()?;
         let is_waited_for = self.hear(connections)?;
+        self.write_edit(connections)?;
         self.look()?;
         Ok(is_waited_for)
     }
@@ -270,8 +275,13 @@ fn open_server<'a, R: Files<File = File> + Net + Clock + Eprint + AllocGlobal>(
         together,
     };
     let Begun { file, watch, port } = begun;
+    let mut edited = EditedFile::new(web.file.as_deref());
+    let file = edited.reread(rt).or(file);
     let beside = Beside { file, port, run };
-    let pages = Pages::new(rt.alloc(), identity, token, beside)?;
+    let mut pages = Pages::new(rt.alloc(), identity, token, beside)?;
+    if let Some(steps) = edited.steps() {
+        pages.show_steps(steps);
+    }
     match open_desk(rt, &sources) {
         Ok(desk) => Ok(Server {
             rt,
@@ -280,10 +290,12 @@ fn open_server<'a, R: Files<File = File> + Net + Clock + Eprint + AllocGlobal>(
             watch,
             sign,
             marks: None,
+            edited,
             last: 0,
         }),
         Err(ending) => {
             drop(pages);
+            drop(edited);
             drop(watch);
             drop(sign);
             Err(ending)

@@ -55,6 +55,9 @@ section { min-height: 0; min-width: 0; overflow: auto; }
   content-visibility: auto; contain-intrinsic-size: auto 3.4rem; }
 #stack li[aria-current] { background: var(--panel); border-color: var(--amber); font-weight: 700; }
 #stack li.found { border-color: var(--blue); }
+#stack .acts { display: flex; gap: .3rem; }
+.unedited .edit { display: none; }
+.has-live .edit { visibility: hidden; }
 #stack .note { grid-column: 4 / -1; font-weight: 400; color: var(--soft); font-size: .9rem; }
 .mark { color: var(--amber); }
 .bar { grid-row: 1 / span 2; align-self: stretch; background: var(--mark, transparent); border-radius: .2rem; }

@@ -298,6 +298,14 @@ def is_open(page, cue):
     return page.waits_for(lambda: page.find("edit").is_displayed() and f"cue {cue}" in page.text("edit-title"), 3)
 
 
+def saves(page, evening, name="edit-save"):
+    """Presses a button of the form; the file is another one then, and the form is filled by it."""
+    before = evening.edition()
+    page.click(name)
+    is_made = wait(lambda: evening.edition() == before + 1)
+    check("the edit is made, once", is_made and page.waits_for(lambda: page.run("return editing.edition") == before + 1))
+
+
 def by_mouse(page, other, evening):
     page.click("edit-2")
     check("the form of cue 2 opens", is_open(page, "2"))
@@ -305,7 +313,7 @@ def by_mouse(page, other, evening):
           and page.run(FOCUS) == "edit-text")
     check("each control has a label", page.run(LABELLED))
     types(page, "Wood in")
-    page.click("edit-save")
+    saves(page, evening)
     check("the row has the new name at once", row_has(page, "2", "Wood in"))
     check("the line says it", page.shows("words", "cue 2: its name is changed", 2))
     check("and so has the other browser", row_has(other, "2", "Wood in"))
@@ -313,29 +321,27 @@ def by_mouse(page, other, evening):
     for what, choice, wanted in (("color", "color red", "red"), ("flag", "flag trap", "TRAP")):
         chooses_what(page, what)
         picks(page, choice)
-        page.click("edit-save")
+        saves(page, evening)
         check(f"{what} is shown", row_has(page, "2", wanted) and row_has(other, "2", wanted))
     chooses_what(page, "note")
     types(page, "mind the gap")
-    page.click("edit-save")
+    saves(page, evening)
     check("the note is shown", row_has(page, "2", "mind the gap"))
     chooses_what(page, "place")
     picks(page, "before 1")
-    page.click("edit-save")
+    saves(page, evening)
     placed = "cue 2 comes before cue 1; load the file with --replace"
     check("the line says that the file is to be loaded", page.shows("words", placed, 3))
     chooses_what(page, "copy")
     types(page, "2.5")
-    page.click("edit-save")
+    saves(page, evening)
     check("a copy, too", page.shows("words", "cue 2.5 is a copy of cue 2; load the file with --replace", 3))
     for _ in range(6):
-        page.click("edit-undo")
-        page.shows("words", "the last edit is taken back", 3)
-        time.sleep(0.3)
+        saves(page, evening, "edit-undo")
     check("six steps back give the first text", wait(lambda: evening.file.read_text() == at_own_ports(SHOW)))
     check("and the first name", row_has(page, "2", "Forest in") and row_has(other, "2", "Forest in"))
     check("no step back is left", page.waits_for(lambda: not page.find("edit-undo").is_enabled(), 3))
-    page.click("edit-redo")
+    saves(page, evening, "edit-redo")
     check("a step on", row_has(page, "2", "Wood in"))
     page.click("edit-close")
     check("the form closes", page.waits_for(lambda: not page.find("edit").is_displayed(), 2))
@@ -354,7 +360,7 @@ def by_keyboard(page):
     page.run("document.activeElement.blur()")
 
 
-def of_two_hands(page, other):
+def of_two_hands(page, other, evening):
     """Two browsers that change one file: the second is told, and loses nothing that it typed."""
     page.click("edit-1")
     other.click("edit-1")
@@ -366,7 +372,7 @@ def of_two_hands(page, other):
     other.click("edit-save")
     check("the second is told", other.shows("words", "the show file changed: look again", 3))
     check("what it typed is there", other.find("edit-text").get_attribute("value") == "by the second")
-    time.sleep(0.3)
+    other.waits_for(lambda: other.run("return editing.edition") == evening.edition())
     other.click("edit-save")
     check("saved again it counts", row_has(page, "1", "by the second"))
     for one in (page, other):
@@ -450,7 +456,7 @@ def of_browsers(evening):
             check("the page is there", one.shows("stack", "Storm"))
         by_mouse(page, other, evening)
         by_keyboard(page)
-        of_two_hands(page, other)
+        of_two_hands(page, other, evening)
         in_small_windows(page)
         beside_go(page, evening)
         of_the_word(page, evening)

@@ -92,10 +92,12 @@ only-shown None edition live found h = absurd cc
 only-shown (Some e) edition true found h = absurd cc
 only-shown (Some e) edition false None h = absurd cc
 only-shown (Some e) edition false (Some t) h =
-    let both = if-none (nat_eq edition e.edition) (same_text t (string_bytes e.history.text)) h in
-    (refl, record {
-      editor = e;
-      there = refl;
-      number = eqb-true edition e.edition both.0;
-      text = ap (λ x. Some x) (same_text-true t (string_bytes e.history.text) both.1);
-    })
+    let both = if-none (nat_eq edition e.edition) (same_text t (string_bytes e.history.text)) h in (
+      refl,
+      record {
+        editor = e;
+        there = refl;
+        number = eqb-true edition e.edition both.0;
+        text = ap (λ x. Some x) (same_text-true t (string_bytes e.history.text) both.1);
+      },
+    )

@@ -1,2 +1,3 @@
 mod EditingLemmas
+mod EditorLemmas
 mod HistoryLemmas

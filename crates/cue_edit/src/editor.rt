@@ -3,6 +3,7 @@ ghost use Rattle.std.specs.Prelude.{◌≡◌, IfOk, IfSome, None, Some, option_
 ghost use Rattle.cue_edit.specs.Editor as edits;
 ghost use Rattle.cue_edit.specs.Editor.{IfMade, IfUnmade, IsEditOf, IsMade, IsTextOf, IsWhole};
 ghost use Rattle.cue_edit.specs.History as steps;
+ghost use Rattle.cue_edit.specs.declared.wish.Wish.TheVariants as wishes;
 
 use crate::comparing::are_told_alike;
 use crate::edit::{Edit, EditFault};
@@ -81,6 +82,7 @@ pub fn file_in(alloc: Global, text: &str) -> Result<Option<ShowFile>, AllocError
 }
 
 // A text after an edit.
+#[tactic(auto, using(crate::proofs::EditorLemmas::edit_of))]
 fn edited_text(
     alloc: Global,
     text: &str,
@@ -106,6 +108,7 @@ fn edited_text(
 }
 
 // A text of the history, in place of the one that is there.
+#[tactic(auto, using(crate::proofs::EditorLemmas::text_of))]
 fn text_again(
     alloc: Global,
     text: &str,
@@ -130,7 +133,30 @@ fn text_again(
     }))
 }
 
+// The text before the last edit, again.
+#[tactic(auto, using(crate::proofs::EditorLemmas::undo_made))]
+fn undone_text(alloc: Global, history: &History) -> Result<Result<NewText, EditRefusal>, AllocError>
+    ensures { IfMade result (IsMade (steps.steps_of history.now) wishes.Undo) }
+{
+    match history.text_before() {
+        Some(other) => text_again(alloc, history.text(), other),
+        None => Ok(Err(EditRefusal::NoUndo)),
+    }
+}
+
+// The text after the edit that was taken back last, again.
+#[tactic(auto, using(crate::proofs::EditorLemmas::redo_made))]
+fn redone_text(alloc: Global, history: &History) -> Result<Result<NewText, EditRefusal>, AllocError>
+    ensures { IfMade result (IsMade (steps.steps_of history.now) wishes.Redo) }
+{
+    match history.text_after() {
+        Some(other) => text_again(alloc, history.text(), other),
+        None => Ok(Err(EditRefusal::NoRedo)),
+    }
+}
+
 // The text that a wish makes of a history.
+#[tactic(auto, using(crate::proofs::EditorLemmas::edit_made))]
 fn text_made(
     alloc: Global,
     history: &History,
@@ -140,14 +166,8 @@ fn text_made(
 {
     match wish {
         Wish::Edit(edit) => edited_text(alloc, history.text(), edit),
-        Wish::Undo => match history.text_before() {
-            Some(other) => text_again(alloc, history.text(), other),
-            None => Ok(Err(EditRefusal::NoUndo)),
-        },
-        Wish::Redo => match history.text_after() {
-            Some(other) => text_again(alloc, history.text(), other),
-            None => Ok(Err(EditRefusal::NoRedo)),
-        },
+        Wish::Undo => undone_text(alloc, history),
+        Wish::Redo => redone_text(alloc, history),
     }
 }
 
@@ -255,6 +275,7 @@ fn stands_against(
 /// this moment, none if it cannot be read. A wish is refused without a show file, while a cue is live, if the file
 /// cannot be read, and if the text for which it was made is not the one that is shown and found, in this order; and
 /// then for what it is itself. It takes time and memory for two readings of the whole text.
+#[tactic(auto, using(crate::proofs::EditorLemmas::of_editor, crate::proofs::EditorLemmas::made_anyway))]
 pub fn judge_edit(
     alloc: Global,
     editor: &Option<Editor>,

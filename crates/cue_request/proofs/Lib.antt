@@ -1,2 +1,3 @@
+mod EditLemmas
 pub mod LockLemmas
-pub mod RequestLemmas
+mod RequestLemmas

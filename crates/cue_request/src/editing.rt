@@ -23,6 +23,7 @@ fn text_in(alloc: Global, text: &str) -> Result<Option<String>, AllocError>
 }
 
 // A colour by its word, or none.
+#[tactic(auto, using(crate::proofs::EditLemmas::color_back))]
 fn color_in(word: &str) -> Option<Option<Color>>
     ensures { IfSome result (λ color. word.now ≡ edits.color_of color) }
 {
@@ -33,6 +34,7 @@ fn color_in(word: &str) -> Option<Option<Color>>
 }
 
 // A flag by its word, or none.
+#[tactic(auto, using(crate::proofs::EditLemmas::flag_back))]
 fn flag_in(word: &str) -> Option<Option<Flag>>
     ensures { IfSome result (λ flag. word.now ≡ edits.flag_of flag) }
 {

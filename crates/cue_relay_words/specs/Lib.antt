@@ -1,3 +1,4 @@
 pub mod Laws
 pub mod Planning
+pub mod Saying
 pub mod Words

@@ -1,4 +1,5 @@
-//! The lines of a board on a terminal, of which each picture draws those that have changed.
+//! The lines of a board on a terminal, of which each picture draws those that have changed; where there is no terminal,
+//! `joined` has lines as one text.
 //!
 //!     let mut screen = Screen::new(alloc);
 //!     let text = screen.picture(alloc, lines)?;
@@ -20,6 +21,8 @@
 #![tactic(auto)]
 
 pub mod laws;
+mod lines;
 mod screen;
 
+pub use lines::joined;
 pub use screen::{Screen, WHOLE};

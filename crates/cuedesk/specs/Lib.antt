@@ -1,12 +1,12 @@
 pub mod Beginning
-pub mod Beside
 pub mod Carrying
 pub mod Changing
 pub mod Devices
+pub mod Locking
 pub mod Marking
 pub mod NewFiles
-pub mod Orders
+pub mod Pressing
 pub mod Relaying
 pub mod Reporting
-pub mod Titles
+pub mod Sheets
 pub mod Windows

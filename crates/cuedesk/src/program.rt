@@ -1,8 +1,9 @@
 //! The program: what each command does, prints and answers.
-ghost use Rattle.std.specs.Prelude.{◌≡◌, ◌↔◌};
+ghost use Rattle.std.specs.Prelude.{◌≡◌, ◌↔◌, option_and_then, option_copied};
 ghost use Rattle.cue_desk.specs.Endings.{ending_status};
 ghost use Rattle.cue_desk.specs.Lines.{IsHelp, IsUsage};
 ghost use Rattle.cue_desk.specs.declared.line.LineFault.TheVariants.{Memory};
+ghost use Rattle.cue_desk.specs.Ports.{port_of};
 ghost use Rattle.cuedesk.specs.Carrying as carrying;
 
 mod beside;
@@ -23,8 +24,9 @@ mod sheet;
 mod sign;
 mod web;
 
-use board::{show_board, window_of};
+use board::show_board;
 use buttons::hear_buttons;
+use cue_board_window::window_of;
 use cue_desk::ending::Ending;
 use cue_desk::line::LineFault;
 use cue_desk::orders::DeskCommand;
@@ -52,7 +54,9 @@ use std::time::Clock;
 use web::serve_page;
 
 /// The port of the controller: the one that was said, else that of the show file, else 9100.
-pub fn port_of(said: Option<u16>, file: Option<&ShowFile>) -> u16 {
+pub fn port_of(said: Option<u16>, file: Option<&ShowFile>) -> u16
+    ensures { result ≡ port_of said (option_and_then (λ f. f.port) (option_copied file.entry)) }
+{
     controller_port(said, file.and_then(|file| file.port))
 }
 

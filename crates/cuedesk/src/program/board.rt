@@ -1,21 +1,25 @@
-//! The command `board`: once as text, or again and again on a terminal.
-ghost use Rattle.std.specs.Prelude.{◌≡◌};
-ghost use Rattle.cuedesk.specs.Windows.{window_of};
+//! The command `board`: once as text, or again and again on a terminal. What is drawn is made by `cue_board_window`, by
+//! the newest view; here a desk is heard, and files are read beside it. A board presses nothing.
+ghost use Rattle.std.specs.Prelude.{◌≡◌, [], IfOk, OnOk, None, map, string_bytes};
+ghost use Rattle.cue_desk.specs.declared.ending.Ending.TheVariants.{Failed};
+ghost use Rattle.cue_desk_rounds.specs.Working.{IsUntouched, OnlyLooks};
+ghost use Rattle.cuedesk.specs.Windows as windows;
 
-mod drawing;
-
+use super::beside::{read_log, relay_lines};
 use super::opening::open_desk;
 use super::renewing::{Begun, Renewal, WatchedFile, begin};
 use super::sign::{SignWatch, sign_of};
 use super::web::{devices_path, hear_devices};
+use cue_board::Names;
+use cue_board_window::{Shown, differing_lines, window_lines};
 use cue_desk::ending::Ending;
 use cue_desk_line::Watched;
 use cue_desk_run::{Beat, Desk, Sources};
 use cue_files_run::open_store;
 use cue_saying::{failed, print, say, say_fault};
-use cue_screen::Screen;
+use cue_screen::{Screen, joined};
 use cue_show_file::{Group, ShowFile};
-use drawing::joined;
+use std::alloc::AllocError;
 use std::fs::{File, Files};
 use std::io::{self, Eprint, Write};
 use std::net::Net;
@@ -31,20 +35,6 @@ const PICTURE: u64 = 100;
 const PATIENCE: u64 = 1_000;
 
 const FIRST: u64 = 100;
-
-/// The rows of a window, if they are not given.
-const ROWS: u16 = 24;
-
-/// The rows of the window that the board is drawn in; none if it is printed once, as text.
-pub fn window_of(is_once: bool, given: Option<u16>) -> Option<u16>
-    ensures { result ≡ window_of is_once given }
-{
-    if is_once {
-        None
-    } else {
-        Some(given.unwrap_or(ROWS))
-    }
-}
 
 /// The board of one desk.
 #[derive(Drop)]
@@ -70,7 +60,9 @@ where
 
 impl<'a, R: Files<File = File> + Net + Clock + AllocGlobal> Board<'a, R> {
     // Looks for the sign of a rehearsal.
-    fn look_for_sign(&mut self) -> io::Result<()> {
+    fn look_for_sign(&mut self) -> io::Result<()>
+        ensures { self.new.desk ≡ self.old.desk }
+    {
         let now = self.desk.now()?;
         if let Some(sign) = &mut self.sign {
             self.is_rehearsed = sign.look(self.rt, now);
@@ -79,7 +71,9 @@ impl<'a, R: Files<File = File> + Net + Clock + AllocGlobal> Board<'a, R> {
     }
 
     // Looks at the show file, and shows it if it is new. If memory is short, what is told of it stays.
-    fn renew(&mut self) -> io::Result<()> {
+    fn renew(&mut self) -> io::Result<()>
+        ensures { self.new.desk ≡ self.old.desk }
+    {
         let Some(watch) = &mut self.watch else {
             return Ok(());
         };
@@ -92,13 +86,66 @@ impl<'a, R: Files<File = File> + Net + Clock + AllocGlobal> Board<'a, R> {
         }
         Ok(())
     }
+
+    // What it shows, but for the log.
+    fn shown(&self) -> Shown<'_>
+        ensures { windows.IsOf self.now.desk.view result }
+    {
+        Shown {
+            view: self.desk.view(),
+            differences: self.desk.differences(),
+            names: Names {
+                file: self.file.as_ref(),
+                together: self.desk.together(),
+                port: self.port,
+            },
+            told: self.told.as_deref(),
+            is_rehearsed: self.is_rehearsed,
+            rows: self.rows,
+        }
+    }
+
+    // The lines of the newest view, and of what is shown beside it.
+    fn lines(&self) -> Result<Vec<String>, AllocError>
+        ensures { IfOk result (λ lines. windows.ShowsView self.now.desk.view (map string_bytes lines.items)) }
+    {
+        let log = match self.log {
+            Some(path) => read_log(self.rt, path)?,
+            None => Vec::new(self.rt.alloc()),
+        };
+        window_lines(self.rt.alloc(), &self.shown(), log)
+    }
+
+    // Why there is nothing of a relay that is watched, if that is so.
+    fn relay_lines(&self) -> Result<Vec<String>, AllocError>
+        ensures { self.now.relay ≡ None → IfOk result (λ lines. lines.items ≡ []) }
+    {
+        match self.relay {
+            Some(path) if self.desk.view().network.is_empty() => relay_lines(self.rt, path),
+            _ => Ok(Vec::new(self.rt.alloc())),
+        }
+    }
+
+    // The lines of a board that is printed once, with what only a second or five of looking would show.
+    fn all_lines(&self) -> Result<Vec<String>, AllocError>
+        ensures { IfOk result (λ lines. windows.BeginsWithView self.now.desk.view (map string_bytes lines.items)) }
+    {
+        let mut lines = self.lines()?;
+        lines.append(&mut self.relay_lines()?)?;
+        let differs = self.desk.view().differs;
+        lines.append(&mut differing_lines(self.rt.alloc(), differs, self.port)?)?;
+        Ok(lines)
+    }
 }
 
 // Goes on until the store was read and a status answered, or so many milliseconds have passed.
+#[tactic(auto, using(cue_desk_run::proofs::WorkLemmas::looks_none, cue_desk_run::proofs::WorkLemmas::looks_then))]
 fn hear_all<R: Files<File = File> + Net + Clock + AllocGlobal>(
     desk: &mut Desk<'_, R>,
     most: u64,
-) -> io::Result<()> {
+) -> io::Result<()>
+    ensures { OnlyLooks desk.old.station desk.new.station }
+{
     for _ in 0..u64::MAX {
         desk.round()?;
         if desk.view().is_complete() || desk.now()? > most {
@@ -110,7 +157,9 @@ fn hear_all<R: Files<File = File> + Net + Clock + AllocGlobal>(
 }
 
 // Says why the store of this folder was not read.
-fn say_unread<R: Files<File = File> + Eprint + AllocGlobal>(rt: &R, dir: &str) -> Ending {
+fn say_unread<R: Files<File = File> + Eprint + AllocGlobal>(rt: &R, dir: &str) -> Ending
+    ensures { result ≡ Failed }
+{
     if let Err(why) = open_store(rt, dir) {
         say(rt, why.as_str());
     }
@@ -121,7 +170,11 @@ fn say_unread<R: Files<File = File> + Eprint + AllocGlobal>(rt: &R, dir: &str) -
 fn print_once<R: Files<File = File> + Net + Clock + Eprint + AllocGlobal, W: Write>(
     board: &mut Board<'_, R>,
     writer: &mut W,
-) -> Result<(), Ending> {
+) -> Result<(), Ending>
+    ensures looks { OnlyLooks board.old.desk.station board.new.desk.station }
+    ensures printed { OnOk result (windows.PrintsOnce board.new.desk.view (W.contents writer.old)
+        (W.contents writer.new)) }
+{
     if let Err(why) = hear_all(&mut board.desk, PATIENCE) {
         return Err(failed(board.rt, &why));
     }
@@ -135,19 +188,14 @@ fn print_once<R: Files<File = File> + Net + Clock + Eprint + AllocGlobal, W: Wri
     print(writer, joined(board.rt.alloc(), &lines)?.as_str())
 }
 
-// Hears what is there at first, after which a picture is due.
-fn first_round<R: Files<File = File> + Net + Clock + AllocGlobal>(
-    desk: &mut Desk<'_, R>,
-) -> io::Result<bool> {
-    hear_all(desk, FIRST)?;
-    Ok(true)
-}
-
 // Hears what is there; answers whether a picture is due.
+#[tactic(auto, using(cue_desk_run::proofs::WorkLemmas::looks_none))]
 fn round<R: Files<File = File> + Net + Clock + AllocGlobal>(
     board: &mut Board<'_, R>,
     pictures: &mut Beat,
-) -> io::Result<bool> {
+) -> io::Result<bool>
+    ensures { OnlyLooks board.old.desk.station board.new.desk.station }
+{
     board.desk.wait(PAUSE)?;
     board.desk.round()?;
     board.renew()?;
@@ -157,10 +205,13 @@ fn round<R: Files<File = File> + Net + Clock + AllocGlobal>(
 
 // Draws the picture that is due.
 fn draw<R: Files<File = File> + Net + Clock + Eprint + AllocGlobal, W: Write>(
-    board: &mut Board<'_, R>,
+    board: &Board<'_, R>,
     screen: &mut Screen,
     writer: &mut W,
-) -> Result<(), Ending> {
+) -> Result<(), Ending>
+    ensures { OnOk result (windows.Draws board.now.desk.view screen.old screen.new (W.contents writer.old)
+        (W.contents writer.new)) }
+{
     let lines = board.lines()?;
     let picture = screen.picture(board.rt.alloc(), lines)?;
     print(writer, picture.as_str())
@@ -172,7 +223,11 @@ fn show_round<R: Files<File = File> + Net + Clock + Eprint + AllocGlobal, W: Wri
     screen: &mut Screen,
     is_due: io::Result<bool>,
     writer: &mut W,
-) -> Result<(), Ending> {
+) -> Result<(), Ending>
+    ensures station { board.new.desk.station ≡ board.old.desk.station }
+    ensures drawn { OnOk result (windows.DrawsIf is_due board.old.desk.view screen.old screen.new
+        (W.contents writer.old) (W.contents writer.new)) }
+{
     match is_due {
         Ok(true) => draw(board, screen, writer)?,
         Ok(false) => {}
@@ -182,34 +237,43 @@ fn show_round<R: Files<File = File> + Net + Clock + Eprint + AllocGlobal, W: Wri
     Ok(())
 }
 
-// Draws the first picture, and goes on round by round.
+// Draws the first picture, and goes on round by round, until the terminal or a signal ends it: by itself it ends only
+// by a failure.
+#[tactic(auto, using(cue_desk_run::proofs::WorkLemmas::looks_none, cue_desk_run::proofs::WorkLemmas::looks_then))]
 fn show_rounds<R: Files<File = File> + Net + Clock + Eprint + AllocGlobal, W: Write>(
     board: &mut Board<'_, R>,
     screen: &mut Screen,
     writer: &mut W,
-) -> Result<(), Ending> {
+) -> Result<(), Ending>
+    ensures looks { OnlyLooks board.old.desk.station board.new.desk.station }
+    ensures ends { OnOk result ⊥ }
+{
     let mut pictures = Beat::of(PICTURE);
-    let is_due = first_round(&mut board.desk);
-    show_round(board, screen, is_due, writer)?;
+    let first = hear_all(&mut board.desk, FIRST).and(Ok(true));
+    show_round(board, screen, first, writer)?;
     for _ in 0..u64::MAX {
         let is_due = round(board, &mut pictures);
         show_round(board, screen, is_due, writer)?;
     }
-    Ok(())
+    Err(Ending::Failed)
 }
 
 // The board until the terminal or a signal ends it.
 fn show_on<R: Files<File = File> + Net + Clock + Eprint + AllocGlobal, W: Write>(
     board: &mut Board<'_, R>,
     writer: &mut W,
-) -> Result<(), Ending> {
+) -> Result<(), Ending>
+    ensures looks { OnlyLooks board.old.desk.station board.new.desk.station }
+    ensures ends { OnOk result ⊥ }
+{
     let mut screen = Screen::new(board.rt.alloc());
     let shown = show_rounds(board, &mut screen, writer);
     drop(screen);
     shown
 }
 
-// The board of a desk that begins with this show file, where these cues stand by together.
+// The board of a desk that begins with this show file, where these cues stand by together. It asks the controller at
+// this port, and has pressed nothing.
 fn open_board<'a, R: Files<File = File> + Net + Clock + Eprint + AllocGlobal>(
     rt: &'a R,
     watched: &'a Watched,
@@ -217,7 +281,11 @@ fn open_board<'a, R: Files<File = File> + Net + Clock + Eprint + AllocGlobal>(
     sign: Option<SignWatch>,
     begun: Begun<'a>,
     together: &'a [Group],
-) -> Result<Board<'a, R>, Ending> {
+) -> Result<Board<'a, R>, Ending>
+    ensures untouched { IfOk result (λ board. IsUntouched board.desk.station) }
+    ensures port { IfOk result (λ board. board.desk.asks.outlet.way.port ≡ begun.port) }
+    ensures together { IfOk result (λ board. board.desk.asks.outlet.way.together.now ≡ together.now) }
+{
     let sources = Sources {
         name: None,
         dir: watched.dir.as_str(),
@@ -256,7 +324,9 @@ pub fn show_board<R: Files<File = File> + Net + Clock + Eprint + AllocGlobal, W:
     watched: &Watched,
     rows: Option<u16>,
     writer: &mut W,
-) -> Result<(), Ending> {
+) -> Result<(), Ending>
+    ensures { OnOk result (windows.IsBoard rows (W.contents writer.old) (W.contents writer.new)) }
+{
     let sign = sign_of(rt.alloc(), watched.file.as_deref())?;
     let places = devices_path(rt.alloc(), watched.alarms.as_deref())?;
     let (begun, together) = begin(rt, watched.file.as_deref(), watched.port)?;
@@ -264,10 +334,9 @@ pub fn show_board<R: Files<File = File> + Net + Clock + Eprint + AllocGlobal, W:
     if let Some(path) = places.as_deref() {
         hear_devices(rt, path, &mut board.desk);
     }
-    let shown = if rows.is_none() {
-        print_once(&mut board, writer)
-    } else {
-        show_on(&mut board, writer)
+    let shown = match rows {
+        None => print_once(&mut board, writer),
+        Some(_) => show_on(&mut board, writer),
     };
     drop(board);
     shown

@@ -1,11 +1,17 @@
 //! The command `buttons`: a real desk presses over MIDI what the page would press.
-use super::opening::{groups_and_port, open_desk};
-use super::sign::{REHEARSAL, sign_of};
+ghost use Rattle.std.specs.Prelude.{IfOk, OnOk};
+ghost use Rattle.cue_buttons.specs.Pressing.{HasHeard};
+ghost use Rattle.cue_desk_rounds.specs.Working.{IsUntouched};
+ghost use Rattle.cuedesk.specs.Pressing.{PressesStruck};
+
+use super::opening::{Pressing, groups_and_port, open_to_press};
+use super::sign::sign_of;
+use cue_board_window::REHEARSAL;
 use cue_buttons::Console;
 use cue_buttons_run::hear_all;
 use cue_desk::ending::Ending;
 use cue_desk_line::Buttons;
-use cue_desk_run::{NetWorld, Sources};
+use cue_desk_run::NetWorld;
 use cue_panel::Setting;
 use cue_saying::say;
 use cue_show_file::Group;
@@ -20,20 +26,21 @@ fn open_console<'a, R: Files<File = File> + Net + Clock + Eprint + AllocGlobal>(
     buttons: &'a Buttons,
     together: &'a [Group],
     port: u16,
-) -> Result<Console<'a, R, NetWorld<'a, R>>, Ending> {
-    let sources = Sources {
+) -> Result<Console<'a, R, NetWorld<'a, R>>, Ending>
+    ensures untouched { IfOk result (λ console. IsUntouched console.desk.station) }
+    ensures heard { IfOk result (λ console. HasHeard console.panel.player.parser) }
+{
+    let at = Pressing {
         dir: buttons.dir.as_str(),
-        port,
-        relay: None,
         name: buttons.name,
-        together,
+        port,
     };
     let setting = Setting {
         keys: buttons.keys,
         address: buttons.address,
         port,
     };
-    let desk = open_desk(rt, &sources)?;
+    let desk = open_to_press(rt, at, together)?;
     Ok(Console::new(rt, desk, setting))
 }
 
@@ -42,7 +49,9 @@ pub fn hear_buttons<R: Files<File = File> + Net + Clock + Eprint + AllocGlobal, 
     rt: &R,
     buttons: &Buttons,
     writer: &mut W,
-) -> Result<(), Ending> {
+) -> Result<(), Ending>
+    ensures { OnOk result PressesStruck }
+{
     let (together, port) = groups_and_port(rt, buttons.file.as_deref(), buttons.port)?;
     let mut console = open_console(rt, buttons, &together, port)?;
     if let Some(sign) = &mut sign_of(rt.alloc(), buttons.file.as_deref())? {

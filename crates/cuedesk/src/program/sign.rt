@@ -10,9 +10,6 @@ use std::fs::{File, Files};
 /// How many milliseconds lie between two looks.
 const LOOK: u64 = 500;
 
-/// What board and page say while a rehearsal runs.
-pub const REHEARSAL: &str = "REHEARSAL: cuedesk rehearse plays the devices";
-
 /// The sign of one show file.
 #[derive(Drop)]
 pub struct SignWatch {

@@ -1,0 +1,7 @@
+use Rattle.cue_reporting.specs.Hearing.{Hears}
+use Rattle.cue_reporting.proofs.hearing.hear_all.Given as goal
+
+-- what was read so far was heard
+abbrev pub invariant-loop : goal.invariant-loop
+invariant-loop g l =
+    Hears g.H.Hearer.hears (g.F.Read.remaining l.fn.log) (g.F.Read.remaining l.log) l.fn.hearer l.hearer

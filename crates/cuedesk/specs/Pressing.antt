@@ -1,7 +1,7 @@
 -- What a word presses at a desk, and a panel of buttons.
 use Rattle.std.specs.Prelude.{◌≡◌}
-use Rattle.cue_buttons_run.specs.Pressing.{HasHeard, OnlyStruck}
-use Rattle.cue_buttons_run.specs.Wishes.{WishedOnce}
+use Rattle.cue_buttons.specs.Pressing.{HasHeard, OnlyStruck}
+use Rattle.cue_buttons.specs.Wishes.{WishedOnce}
 use Rattle.cue_desk_rounds.specs.Working.{IsUntouched}
 use Rattle.cue_panel.specs.declared.player.Player.{Player}
 use Rattle.cue_panel.specs.declared.wish.Wish.{Wish}

@@ -139,7 +139,7 @@ impl<'a, R: Files<File = File> + Net + Clock + AllocGlobal> Board<'a, R> {
 }
 
 // Goes on until the store was read and a status answered, or so many milliseconds have passed.
-#[tactic(auto, using(cue_desk_run::proofs::WorkLemmas::looks_none, cue_desk_run::proofs::WorkLemmas::looks_then))]
+#[tactic(auto, using(cue_desk_rounds::proofs::WorkLemmas::looks_none, cue_desk_rounds::proofs::WorkLemmas::looks_then))]
 fn hear_all<R: Files<File = File> + Net + Clock + AllocGlobal>(
     desk: &mut Desk<'_, R>,
     most: u64,
@@ -189,7 +189,7 @@ fn print_once<R: Files<File = File> + Net + Clock + Eprint + AllocGlobal, W: Wri
 }
 
 // Hears what is there; answers whether a picture is due.
-#[tactic(auto, using(cue_desk_run::proofs::WorkLemmas::looks_none))]
+#[tactic(auto, using(cue_desk_rounds::proofs::WorkLemmas::looks_none))]
 fn round<R: Files<File = File> + Net + Clock + AllocGlobal>(
     board: &mut Board<'_, R>,
     pictures: &mut Beat,
@@ -239,7 +239,7 @@ fn show_round<R: Files<File = File> + Net + Clock + Eprint + AllocGlobal, W: Wri
 
 // Draws the first picture, and goes on round by round, until the terminal or a signal ends it: by itself it ends only
 // by a failure.
-#[tactic(auto, using(cue_desk_run::proofs::WorkLemmas::looks_none, cue_desk_run::proofs::WorkLemmas::looks_then))]
+#[tactic(auto, using(cue_desk_rounds::proofs::WorkLemmas::looks_none, cue_desk_rounds::proofs::WorkLemmas::looks_then))]
 fn show_rounds<R: Files<File = File> + Net + Clock + Eprint + AllocGlobal, W: Write>(
     board: &mut Board<'_, R>,
     screen: &mut Screen,

@@ -1,6 +1,6 @@
 //! What a command with a desk opens.
 ghost use Rattle.std.specs.Prelude.{◌≡◌, IfOk, is_some};
-ghost use Rattle.cue_desk_run.specs.Leaving.{way_of};
+ghost use Rattle.cue_desk_run.specs.Sources.{way_of};
 ghost use Rattle.cue_desk_rounds.specs.Working.{IsUntouched};
 ghost use Rattle.cuedesk.specs.Beginning.{IsBegunBy};
 

@@ -11,8 +11,8 @@ use Rattle.cue_machine.specs.declared.address.Address.{Address}
 use Rattle.cue_edge_run.specs.Sockets.{IsAt}
 
 -- the socket of a host's bits is at that host
-pub is_at : (a : Address) (s : SocketAddr) (ip : Ipv4Addr) → a.host < 2 ^ 32 → IsIpv4OfBits ip a.host → socket_ip s ≡ V4 ip
-    → socket_port s ≡ a.port → IsAt a s
+pub is_at : (a : Address) (s : SocketAddr) (ip : Ipv4Addr) → a.host < 2 ^ 32 → IsIpv4OfBits ip a.host
+    → socket_ip s ≡ V4 ip → socket_port s ≡ a.port → IsAt a s
 unfolding IsIpv4OfBits ipv4_bits
 is_at a s ip fits bits is port = record {
   ip = ip;

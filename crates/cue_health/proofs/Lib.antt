@@ -1,0 +1,4 @@
+mod HealthLemmas
+mod LineLemmas
+mod StandingLemmas
+mod WrittenLemmas

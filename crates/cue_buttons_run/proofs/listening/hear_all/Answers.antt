@@ -14,6 +14,16 @@ returns-in_err-say_keys-clause-struck g c =
     c.args.console.now.desk.view c.say_keys.new.self.desk.view c.say_keys.ensures.player (ap (λ d. d.station)
     c.say_keys.ensures.desk) (ap (λ d. d.view) c.say_keys.ensures.desk))
 
+pub returns-in-Err-clause-struck : goal.returns-in-Err-clause-struck
+returns-in-Err-clause-struck g c =
+    goes_struck false None None c.args.console.now.panel.player c.say_keys.new.self.panel.player
+    c.args.console.now.desk.station
+    c.say_keys.new.self.desk.station c.args.console.now.desk.view c.say_keys.new.self.desk.view (goes_same false None
+    c.args.console.now.panel.player c.say_keys.new.self.panel.player c.args.console.now.desk.station
+    c.say_keys.new.self.desk.station
+    c.args.console.now.desk.view c.say_keys.new.self.desk.view c.say_keys.ensures.player (ap (λ d. d.station)
+    c.say_keys.ensures.desk) (ap (λ d. d.view) c.say_keys.ensures.desk))
+
 pub returns-clause-struck : goal.returns-clause-struck
 returns-clause-struck g c =
     goes_struck (is_ok c.hear_on.result) None None c.args.console.now.panel.player c.hear_on.new.console.panel.player

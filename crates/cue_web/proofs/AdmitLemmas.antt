@@ -73,10 +73,10 @@ pub come_next : {S : Type 0} → (room room_now room_then : ℕ) (here all all_t
     (is_kept : Bool) → all_then ≡ (if is_kept then all ++ c ∷ [] else all)
     → (is_kept ≡ false → room_now ≤ length all) → room_now ≤ room_then → n < MAX_ADMITTED
     → ComeSoFar room room_now here all n → IsFresh c.connection → ComeSoFar room room_then here all_then (n + 1)
-come_next room room_now room_then here all all_then n c true e full grown more past is =
+come_next {S} room room_now room_then here all all_then n c true e full grown more past is =
     subst (λ (l : List (Wire S)). ComeSoFar room room_then here l (n + 1)) (sym e)
     (come-more room room_now room_then here all n c past is grown)
-come_next room room_now room_then here all all_then n c false e full grown more past is =
+come_next {S} room room_now room_then here all all_then n c false e full grown more past is =
     subst (λ (l : List (Wire S)). ComeSoFar room room_then here l (n + 1)) (sym e)
     (come-dropped room room_now room_then here all n past more (full refl) grown)
 

@@ -4,4 +4,4 @@ use Rattle.cue_web.specs.Serving.{are_here}
 use Rattle.cue_web.proofs.connections.drop_gone.Goals as goal
 
 pub returns-clause-stay : goal.returns-clause-stay
-returns-clause-stay c = filter_same _ are_here _ (λ x b after h. search rules) _ _ c.retain.ensures.filtered
+returns-clause-stay g c = filter_same _ are_here _ (λ x b after h. search rules) _ _ c.retain.ensures.filtered

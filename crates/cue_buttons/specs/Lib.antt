@@ -1,5 +1,6 @@
 pub mod Memory
 pub mod Playing
+pub mod Plugs
 pub mod Pressing
 pub mod Telling
 pub mod Whole

@@ -1,15 +1,16 @@
 //! The device that is heard, and the rounds of a real desk.
 ghost use Rattle.std.specs.Prelude.{◌≡◌, None, IfOk, OnOk, is_ok};
-ghost use Rattle.cue_buttons.specs.Playing.{Goes, HasListened, Hears, HearsCame, ListensAt, Opens, Rounds};
-ghost use Rattle.cue_buttons.specs.Pressing.{OnlyStruck};
-ghost use Rattle.cue_buttons.specs.Telling.{bytes_in};
+ghost use Rattle.cue_buttons.specs.Playing.{Goes, HasListened, Hears, ListensAt, Opens, Rounds};
 ghost use Rattle.cue_buttons.specs.Whole.{HearsAll};
+ghost use Rattle.cue_health.specs.declared.health.Plug.TheVariants.{Out};
 ghost use Rattle.cue_panel.specs.Listening as listening;
 
+use crate::came::{Quiet, hear_came, plug_after, words_of};
 use crate::console::Console;
-use crate::jack::{Came, Jack};
+use crate::jack::Jack;
 use cue_desk::ending::Ending;
 use cue_desk_rounds::World;
+use cue_health::Plug;
 use cue_panel::{Listening, Notice, Silence, notice_of, notice_text, pieces};
 use cue_saying::print;
 use std::alloc::{AllocError, Global};
@@ -24,58 +25,8 @@ pub struct Ear<'a, J> {
     jack: J,
     path: &'a str,
     listening: Listening,
-}
-
-/// Why a device is heard no more, and what the system says of that.
-#[derive(Drop)]
-struct Quiet {
-    silence: Silence,
-    why: Option<io::Error>,
-}
-
-// What the system says, in words; empty if it says nothing.
-fn words_of(alloc: Global, why: &Option<io::Error>) -> Result<String, AllocError> {
-    match why {
-        Some(why) => format!(in alloc; "{why}"),
-        None => Ok(String::new(alloc)),
-    }
-}
-
-// The first so many bytes of a room; none if it has fewer.
-fn bytes_in(n: usize, room: &[u8]) -> &[u8]
-    ensures { result.now ≡ bytes_in n room.now }
-{
-    room.get(..n).unwrap_or(&[])
-}
-
-// Lets a console hear what a reading gave into this room. Answers whether there may be more.
-fn hear_came<R: Eprint + AllocGlobal, D: World + Drop>(
-    console: &mut Console<'_, R, D>,
-    room: &[u8],
-    came: Came,
-) -> Result<Result<bool, Quiet>, AllocError>
-    ensures { HearsCame (is_ok result) came room.now console.old.panel.player console.new.panel.player
-        console.old.desk.station console.new.desk.station console.old.desk.view console.new.desk.view }
-{
-    match came {
-        Came::Bytes(n) => {
-            console.hear(bytes_in(n, room))?;
-            Ok(Ok(true))
-        }
-        Came::Nothing => {
-            console.panel.empty();
-            Ok(Ok(false))
-        }
-        Came::Interrupted => Ok(Ok(false)),
-        Came::Ended => Ok(Err(Quiet {
-            silence: Silence::Ended,
-            why: None,
-        })),
-        Came::Gone(why) => Ok(Err(Quiet {
-            silence: Silence::Lost,
-            why: Some(why),
-        })),
-    }
+    // How the input is, by the clock of the desk.
+    plug: Plug,
 }
 
 impl<'a, J: Jack> Ear<'a, J> {
@@ -83,11 +34,13 @@ impl<'a, J: Jack> Ear<'a, J> {
     pub fn new(jack: J, path: &'a str) -> Ear<'a, J>
         ensures jack { result.jack ≡ jack }
         ensures listening { result.listening ≡ listening.begun }
+        ensures plug { result.plug ≡ Out }
     {
         Ear {
             jack,
             path,
             listening: Listening::new(),
+            plug: Plug::Out,
         }
     }
 
@@ -124,6 +77,7 @@ impl<'a, J: Jack> Ear<'a, J> {
         match self.jack.open() {
             Ok(()) => {
                 console.panel.open(now);
+                self.plug = Plug::Unheard;
                 console.tell_of(self.path, &Notice::Hearing)
             }
             Err(why) => self.say_closed(rt, console, &why),
@@ -142,6 +96,7 @@ impl<'a, J: Jack> Ear<'a, J> {
     {
         let mut piece = [0; PIECE];
         let came = self.jack.read(&mut piece);
+        self.plug = plug_after(self.plug, &came, console.panel.player.hand.at);
         hear_came(console, &piece, came)
     }
 
@@ -194,13 +149,22 @@ impl<'a, J: Jack> Ear<'a, J> {
         ensures told { J.told self.new.jack ≡ J.told self.old.jack }
         ensures ends { IfOk result (λ is_end. is_end ≡ listening.is_end quiet.now.silence) }
         ensures listening { self.new.listening ≡ listening.let_go self.old.listening }
+        ensures plug { self.new.plug ≡ Out }
     {
         self.jack.close();
         self.listening.let_go();
+        self.plug = Plug::Out;
         let words = words_of(rt.alloc(), &quiet.why)?;
         console.tell_of(self.path, &notice_of(quiet.silence, words.as_str()))?;
         console.panel.lines.say_tally()?;
         Ok(quiet.silence.is_end())
+    }
+
+    /// Lets the jack go.
+    pub fn into_jack(self) -> J
+        ensures { result ≡ self.jack }
+    {
+        self.jack
     }
 
     // Hears what is there, and says so if the device is heard no more. Answers whether that is the end.
@@ -215,6 +179,7 @@ impl<'a, J: Jack> Ear<'a, J> {
             console.new.desk.view }
     {
         let heard = self.hear(console)?;
+        self.jack.note(self.plug, now);
         match self.quiet(now, heard) {
             Some(quiet) => self.close(rt, console, &quiet),
             None => Ok(false),

@@ -3,6 +3,7 @@ ghost use Rattle.std.specs.Prelude.{◌≡◌, List, Option, is_ok, length};
 ghost use Rattle.cue_buttons.specs.Telling.{IsWithin, Told, opened_if, told_as};
 ghost use Rattle.cue_machine.specs.Growing.{Grew};
 
+use cue_health::Plug;
 use std::io;
 
 /// What comes of a reading.
@@ -40,6 +41,10 @@ pub trait Jack {
     fn read(&mut self, room: &mut [u8]) -> Came
         ensures within { IsWithin result (length room.new) }
         ensures told { Grew (told self.old) (told_as result room.new) (told self.new) };
+
+    /// Hears in each round how the input is, by the clock of the desk, and may tell others of it.
+    fn note(&mut self, plug: Plug, now: u64)
+        ensures { told self.new ≡ told self.old };
 
     /// Lets the device go.
     fn close(&mut self)

@@ -9,6 +9,7 @@
 //! Only tested: how long a device is waited for.
 #![tactic(auto)]
 
+mod came;
 mod console;
 mod hand;
 mod hearing;

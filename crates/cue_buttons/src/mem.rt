@@ -4,6 +4,7 @@ ghost use Rattle.cue_buttons.specs.Memory.{reading_view, told_by};
 ghost use Rattle.cue_buttons.specs.Telling.{IsWithin, reading_as};
 
 use crate::jack::{Came, Jack};
+use cue_health::Plug;
 use std::alloc::Global;
 use std::io;
 use std::vec::IntoIter;
@@ -95,6 +96,8 @@ impl Jack for MemJack {
         }
         came
     }
+
+    fn note(&mut self, _plug: Plug, _now: u64) {}
 
     fn close(&mut self) {
         self.is_open = false;

@@ -3,13 +3,16 @@ ghost use Rattle.std.specs.Prelude.{◌≡◌, None, length};
 ghost use Rattle.cue_buttons.specs.Telling.{EndsAt, IsWithin, TakesOff};
 ghost use Rattle.cue_buttons_run.specs.Waiting.{found_nothing, was_interrupted};
 
+use crate::teller::Teller;
 use cue_buttons::{Came, Jack};
+use cue_health::Plug;
 use mio::unix::SourceFd;
 use mio::{Interest, Registry, Token};
 use std::fs::{self, File, Files, Metadata, OpenOptions};
 use std::io::{self, ErrorKind, Read};
 use std::os::fd::AsRawFd;
 use std::os::unix::fs::{FileTypeExt, MetadataExt};
+use std::time::Clock;
 
 /// The token of the device in a poll.
 const BYTES: Token = Token(3);
@@ -36,6 +39,8 @@ pub struct PathJack<'a, R> {
     path: &'a str,
     registry: Registry,
     device: Option<Device>,
+    // Who says beside the show file how the input is, if there is one.
+    teller: Option<Teller<'a>>,
 }
 
 // Whether a call that failed so only found nothing at this moment.
@@ -119,19 +124,33 @@ impl Device {
     }
 }
 
-impl<'a, R: Files<File = File>> PathJack<'a, R> {
-    /// The jack at this path; nothing is open. What comes of its device wakes the poll of this registry.
-    pub fn new(rt: &'a R, path: &'a str, registry: Registry) -> PathJack<'a, R> {
+impl<'a, R: Files<File = File> + Clock + AllocGlobal> PathJack<'a, R> {
+    /// The jack at this path; nothing is open. What comes of its device wakes the poll of this registry, and this teller
+    /// says how the input is.
+    pub fn new(
+        rt: &'a R,
+        path: &'a str,
+        registry: Registry,
+        teller: Option<Teller<'a>>,
+    ) -> PathJack<'a, R> {
         PathJack {
             rt,
             path,
             registry,
             device: None,
+            teller,
+        }
+    }
+
+    /// Takes away what the teller said: the program ends.
+    pub fn leave(&self) {
+        if let Some(teller) = &self.teller {
+            teller.leave(self.rt);
         }
     }
 }
 
-impl<R: Files<File = File>> Jack for PathJack<'_, R> {
+impl<R: Files<File = File> + Clock + AllocGlobal> Jack for PathJack<'_, R> {
     ghost told = { λ _. None };
 
     fn is_open(&self) -> bool {
@@ -154,6 +173,12 @@ impl<R: Files<File = File>> Jack for PathJack<'_, R> {
         match &mut self.device {
             Some(device) => read_from(&mut device.file, room),
             None => Came::Interrupted,
+        }
+    }
+
+    fn note(&mut self, plug: Plug, now: u64) {
+        if let Some(teller) = &mut self.teller {
+            teller.tell(self.rt, plug, now);
         }
     }
 

@@ -10,11 +10,15 @@
 //! - A device that is taken out ends the reading with an error. Of a path that names something else by now nobody
 //!   tells, so it is looked at each second.
 //!
+//! A teller says beside the show file how the input is (`cue_health_run`): board and page show that.
+//!
 //! Only tested: what the system gives of a device, and how long it is waited for.
 #![tactic(auto)]
 
 mod device;
 mod listening;
+mod teller;
 
 pub use device::PathJack;
 pub use listening::hear_all;
+pub use teller::Teller;

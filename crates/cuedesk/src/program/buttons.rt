@@ -8,16 +8,18 @@ use super::opening::{Pressing, groups_and_port, open_to_press};
 use super::sign::sign_of;
 use cue_board_window::REHEARSAL;
 use cue_buttons::Console;
-use cue_buttons_run::hear_all;
+use cue_buttons_run::{Teller, hear_all};
 use cue_desk::ending::Ending;
 use cue_desk_line::Buttons;
 use cue_desk_run::NetWorld;
+use cue_health_run::Place;
 use cue_panel::Setting;
-use cue_saying::say;
+use cue_saying::{Shown, say};
 use cue_show_file::Group;
 use std::fs::{File, Files};
 use std::io::{Eprint, Write};
 use std::net::Net;
+use std::str;
 use std::time::Clock;
 
 // A desk with a panel at a controller's port, where these cues stand by together.
@@ -44,6 +46,35 @@ fn open_console<'a, R: Files<File = File> + Net + Clock + Eprint + AllocGlobal>(
     Ok(Console::new(rt, desk, setting))
 }
 
+// Who says beside the show file how the buttons are; if nobody can, standard error says so.
+fn teller_of<'a, R: Files<File = File> + Eprint + AllocGlobal>(
+    rt: &R,
+    buttons: &'a Buttons,
+) -> Option<Teller<'a>> {
+    let show = buttons.file.as_deref()?;
+    let name = match &buttons.name {
+        Some(name) => str::from_utf8(name.text()).ok(),
+        None => None,
+    };
+    let shown = Shown { text: show };
+    match Place::take(rt, show) {
+        Ok(Some(place)) => return Some(Teller::new(place, buttons.midi.as_str(), name)),
+        Ok(None) => say(
+            rt,
+            format_args!(
+                "eight programs hear buttons for {shown}: board and page do not show this one"
+            ),
+        ),
+        Err(why) => say(
+            rt,
+            format_args!(
+                "nothing can be said beside {shown}: {why}: board and page do not show whether these buttons are plugged in"
+            ),
+        ),
+    }
+    None
+}
+
 /// The command `buttons`: until the device ends or a signal ends it.
 pub fn hear_buttons<R: Files<File = File> + Net + Clock + Eprint + AllocGlobal, W: Write>(
     rt: &R,
@@ -59,7 +90,8 @@ pub fn hear_buttons<R: Files<File = File> + Net + Clock + Eprint + AllocGlobal, 
             say(rt, REHEARSAL);
         }
     }
-    let heard = hear_all(rt, buttons.midi.as_str(), &mut console, writer);
+    let teller = teller_of(rt, buttons);
+    let heard = hear_all(rt, buttons.midi.as_str(), teller, &mut console, writer);
     drop(console);
     heard
 }

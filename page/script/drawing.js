@@ -20,6 +20,7 @@ function draw() {
   showStack();
   showLive();
   showWhereabouts();
+  showInputs();
   showTimes();
   showEnds();
   showSpoken();

@@ -6,7 +6,7 @@ const at = (id) => document.getElementById(id);
 const now = () => performance.now();
 let run = null, view = null, heard = 0, missed = 0, names = { cues: new Map(), devices: new Map() };
 let manner = { locked: false, readonly: false, told: null, rehearsed: false, marks: null,
-  edits: null };
+  edits: null, inputs: [] };
 let sure = { press: "", until: 0 }, wasDark = true;
 const shown = {};
 

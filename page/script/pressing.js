@@ -60,7 +60,7 @@ function take(told, asked) {
   const isFirst = run === null;
   run = told.run;
   manner = { locked: told.locked, readonly: told.readonly, told: told.told, rehearsed: told.rehearsed,
-    marks: told.marks, edits: told.edits };
+    marks: told.marks, edits: told.edits, inputs: told.inputs };
   if (isFirst) recallAll();
   if (view && told.view.number === view.number) { takeNames(told.names); draw(); }
   if (view && told.view.number <= view.number) return;

@@ -1,6 +1,7 @@
 pub mod Alarms
 pub mod Buttons
 pub mod Ends
+pub mod Inputs
 pub mod Live
 pub mod Marks
 pub mod Network

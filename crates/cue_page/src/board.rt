@@ -9,6 +9,7 @@ mod alarms;
 mod buttons;
 mod called;
 mod ends;
+mod inputs;
 mod live;
 mod marks;
 mod network;
@@ -25,6 +26,7 @@ use cue_show::CueNo;
 use cue_show_file::{Group, cue_text};
 use cue_view::view::View;
 use ends::{past_value, told_or_null};
+use inputs::inputs_value;
 use live::live_value;
 pub use marks::CurtainMark;
 use marks::marks_value;
@@ -265,6 +267,8 @@ pub struct Manner<'a> {
     pub told: Option<&'a str>,
     /// Whether a rehearsal plays the devices of the show file.
     pub is_rehearsed: bool,
+    /// A line for each program that hears buttons beside the show file: how its input is.
+    pub inputs: &'a [String],
     /// When the curtain went up and down, in order; none if the page keeps no marks.
     pub marks: Option<&'a [CurtainMark]>,
     /// What stands of the edits of the show file; none if there is no show file.
@@ -294,9 +298,12 @@ fn page_value(
         file_line_value(alloc, manner)?,
         marks_value(alloc, manner.marks)?,
     );
-    let edits = edits_value(alloc, manner.steps)?;
+    let (edits, inputs) = (
+        edits_value(alloc, manner.steps)?,
+        inputs_value(alloc, manner.inputs)?,
+    );
     json!(in alloc; {
-        "edits": edits, "locked": manner.is_locked, "marks": marks, "names": called, "readonly": manner.is_read_only,
+        "edits": edits, "inputs": inputs, "locked": manner.is_locked, "marks": marks, "names": called, "readonly": manner.is_read_only,
         "rehearsed": manner.is_rehearsed, "run": manner.run, "told": told, "view": facts
     })
 }

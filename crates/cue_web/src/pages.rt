@@ -69,6 +69,8 @@ pub struct Pages<'a> {
     told: Option<String>,
     // Whether a rehearsal plays the devices.
     is_rehearsed: bool,
+    // A line for each program that hears buttons beside the show file.
+    inputs: Vec<String>,
     // When the curtain moved, if the page keeps marks; and the move that waits to be written down.
     marks: Option<Vec<CurtainMark>>,
     waiting: Option<CurtainMove>,
@@ -130,6 +132,7 @@ impl<'a> Pages<'a> {
             beside,
             told: None,
             is_rehearsed: false,
+            inputs: Vec::new(alloc),
             marks: None,
             waiting: None,
             steps: None,
@@ -171,6 +174,19 @@ impl<'a> Pages<'a> {
     {
         if self.is_rehearsed != is_rehearsed {
             self.is_rehearsed = is_rehearsed;
+            self.drawn = None;
+        }
+    }
+
+    /// From now on these lines say how the programs are that hear buttons.
+    pub fn show_inputs(&mut self, inputs: Vec<String>)
+        ensures identity { self.new.identity ≡ self.old.identity }
+        ensures guard { self.new.guard ≡ self.old.guard }
+        ensures waiting { self.new.waiting ≡ self.old.waiting }
+        ensures edit { self.new.edit ≡ self.old.edit }
+    {
+        if self.inputs != inputs {
+            self.inputs = inputs;
             self.drawn = None;
         }
     }
@@ -251,6 +267,7 @@ impl<'a> Pages<'a> {
             is_read_only: matches!(self.identity.purpose, Purpose::Shows(_)),
             told: self.told.as_deref(),
             is_rehearsed: self.is_rehearsed,
+            inputs: &self.inputs,
             marks: self.marks.as_deref(),
             steps: self.steps,
         };

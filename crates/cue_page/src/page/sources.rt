@@ -8,6 +8,7 @@ mod drawing;
 mod editing;
 mod elements;
 mod finding;
+mod inputs;
 mod keys;
 mod layout;
 mod lines;
@@ -29,7 +30,7 @@ mod windows;
 pub(super) const STYLES: [&str; 4] = [themes::TEXT, layout::TEXT, controls::TEXT, narrow::TEXT];
 
 /// The scripts, in order: what one does at once stands in those before it.
-pub(super) const SCRIPTS: [&str; 20] = [
+pub(super) const SCRIPTS: [&str; 21] = [
     elements::TEXT,
     naming::TEXT,
     windows::TEXT,
@@ -45,6 +46,7 @@ pub(super) const SCRIPTS: [&str; 20] = [
     lines::TEXT,
     settings::TEXT,
     clocks::TEXT,
+    inputs::TEXT,
     sounding::TEXT,
     locking::TEXT,
     editing::TEXT,
@@ -73,6 +75,7 @@ pub(super) const BODY: &str = r#"">
 <h1>CUEDESK</h1>
 <div id="rehearsal" role="status" hidden><b>REHEARSAL</b><span>: cuedesk rehearse plays the devices</span></div>
 <div id="mode" hidden>READ ONLY</div>
+<div id="inputs" role="group" aria-label="Buttons" hidden></div>
 <div id="clocks" role="group" aria-label="Clocks"><span id="wall" role="timer" aria-label="Time"></span>
 <span id="last-go" role="timer" aria-label="Last GO" hidden></span>
 <span id="act" role="timer" aria-label="Act" hidden></span>

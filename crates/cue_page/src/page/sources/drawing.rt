@@ -23,6 +23,7 @@ function draw() {
   showStack();
   showLive();
   showWhereabouts();
+  showInputs();
   showTimes();
   showEnds();
   showSpoken();

@@ -10,6 +10,8 @@ pub(super) const TEXT: &str = r#"
 .low #ended, .low #told { white-space: nowrap; overflow: hidden; text-overflow: ellipsis; }
 .low #rehearsal { flex: 0 0 auto; padding: 0 .6rem; }
 .low #rehearsal span { display: none; }
+.low #inputs { order: 0; flex: 0 1 auto; min-width: 0; overflow: hidden; white-space: nowrap; }
+.low #inputs div:not(.bad), .narrow #inputs div:not(.bad) { display: none; }
 .low #tools { flex-wrap: nowrap; }
 .low #clocks { min-width: 0; overflow: hidden; flex-wrap: nowrap; }
 .slim #last-go, .low.slim #rehearsal:not([hidden]) ~ #clocks #wall, .narrow #wall { display: none; }

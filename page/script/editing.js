@@ -53,6 +53,7 @@ const fieldOfEdit = () => at(isText(at("edit-what").value) ? "edit-text" : "edit
 
 function openEdit(cue, byKey) {
   editing = { cue, edition: 0, byKey };
+  at("edit-what").value = "name";
   at("edit").hidden = false;
   fillEdit();
   showEdits();

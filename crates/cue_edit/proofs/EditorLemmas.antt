@@ -1,11 +1,15 @@
 -- What a wish makes.
-use Rattle.std.proofs.Common.{◌≡◌, refl, subst, ℕ, Bool, true, false, List, Option, None, Some}
-use Rattle.std.specs.Prelude.{IsTrue, not, option_map, Result, Ok, Err, String, string_bytes}
+use Rattle.std.proofs.Common.{◌≡◌, refl, subst, ℕ, Bool, true, false, List, map, Option, None, Some}
+use Rattle.std.specs.Prelude.{IfOk, IsTrue, not, option_map, Result, Ok, Err, String, string_bytes}
 use Rattle.std.specs.declared.alloc.Global.{Global}
+use Rattle.cue_show_file.specs.declared.file.CueEntry.{CueEntry}
 use Rattle.cue_show_file.specs.declared.file.ShowFile.{ShowFile}
+use Rattle.cue_edit.specs.Editing.{seen}
+use Rattle.cue_edit.specs.Laws.{told}
 use Rattle.cue_edit.specs.Editor.{IfMade, IsEditOf, IsFirst, IsMade, IsMadeOf, IsTextOf, IsToldIf, IsWhole, told_of}
 use Rattle.cue_edit.specs.History.{Steps, first_of, steps_of}
-use Rattle.cue_edit.specs.Outcome.{IsEdited}
+use Rattle.cue_edit.specs.Outcome.{IfEdited, IsEdited}
+use Rattle.cue_edit.specs.declared.edit.EditFault.{EditFault}
 use Rattle.cue_edit.specs.declared.edit.Edit.{Edit}
 use Rattle.cue_edit.specs.declared.editing.Edited.{Edited}
 use Rattle.cue_edit.specs.declared.editor.EditRefusal.{EditRefusal}
@@ -19,6 +23,24 @@ use Rattle.cue_edit.specs.declared.wish.Wish.TheVariants as wish
 told-if : (b : Bool) (old new : ShowFile) → (IsTrue b → told_of new ≡ told_of old) → IsToldIf (not b) old new
 told-if true old new h = h refl
 told-if false old new h = tt
+
+-- what was read and was well is whole
+pub whole_by : {F : Type 0} (r : Result ShowFile F) (text : List ℕ) (file : ShowFile) → r ≡ Ok file
+    → IfOk r (IsWhole text) → IsWhole text file
+whole_by {F} r text file e h = subst (λ (x : Result ShowFile F). IfOk x (IsWhole text)) e h
+
+-- what was applied and was well is the edit
+pub edited_by : (E : Type 0) (r : Result Edited EditFault) (edit : Edit) (old : ShowFile) (e : Edited) → r ≡ Ok e
+    → IfEdited {E = E} (Ok r) (IsEdited edit old) → IsEdited edit old e
+edited_by E r edit old e same h =
+    subst (λ (x : Result Edited EditFault). IfEdited {E = E} (Ok x) (IsEdited edit old)) same h
+
+-- the same is told of two files if it is of their cues
+pub told_by : (b : Bool) (o n : List CueEntry) (old file : ShowFile) → o ≡ old.cues.items → n ≡ file.cues.items
+    → (IsTrue b → map told (map seen n) ≡ map told (map seen o)) → IsTrue b → told_of file ≡ told_of old
+told_by b o n old file eo en h t =
+    subst (λ (x : List CueEntry). map told (map seen x) ≡ told_of old) en
+    (subst (λ (x : List CueEntry). map told (map seen n) ≡ map told (map seen x)) eo (h t))
 
 -- an edit that was applied makes a new text of it
 pub edit_of : (edit : Edit) (text : List ℕ) (old : ShowFile) (e : Edited) (b : Bool) → IsWhole text old

@@ -107,13 +107,14 @@ impl<R: Files<File = File> + Net + Clock + Eprint + AllocGlobal> Server<'_, R> {
         }
     }
 
-    // Looks for the sign of a rehearsal, and at the marks.
+    // Looks for the sign of a rehearsal, at the marks, and at the text of the show file.
     fn look_beside(&mut self) -> io::Result<()>
         ensures desk { self.new.desk ≡ self.old.desk }
         ensures identity { self.new.pages.identity ≡ self.old.pages.identity }
         ensures guard { self.new.pages.guard ≡ self.old.pages.guard }
     {
         let now = self.desk.now()?;
+        self.show_fresh(now);
         if let Some(sign) = &mut self.sign {
             self.pages.show_rehearsal(sign.look(self.rt, now));
         }

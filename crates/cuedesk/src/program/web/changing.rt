@@ -1,10 +1,10 @@
 //! The show file of a page, as edits at the page change it: here it is read and written. `cue_edit` decides.
-ghost use Rattle.std.specs.Prelude.{◌≡◌, OnOk};
-ghost use Rattle.cue_edit.specs.Editor.{IsWhole};
+ghost use Rattle.std.specs.Prelude.{◌≡◌, IsTrue};
 ghost use Rattle.cuedesk.specs.Changing.{IfWritten, IsWritten};
 
 use crate::program::editing::keep_both;
-use cue_desk_run::text_within;
+use cue_desk::stamps::Stamp;
+use cue_desk_run::{Beat, text_within};
 use cue_edit::{
     AskedEdit, EditFault, EditRefusal, Editor, NewText, Wish, file_in, judge_edit, made_words,
     unmade_words,
@@ -12,16 +12,23 @@ use cue_edit::{
 use cue_page::board::EditSteps;
 use cue_show_file::ShowFile;
 use std::alloc::{AllocError, Global};
-use std::fs::{File, Files};
+use std::fs::{self, File, Files};
 use std::io;
 
 /// The longest show file that is changed, in bytes: one of 1,024 cues with all their parts has less than half of it.
 const MAX_LEN: usize = 4_000_000;
 
+/// How many milliseconds lie between two looks.
+const LOOK: u64 = 1_000;
+
 /// The show file of a page, if it has one.
 #[derive(Drop)]
 pub struct EditedFile<'a> {
     path: Option<&'a str>,
+    beats: Beat,
+    // What the system said of it at the last look, and when it was read last.
+    looked: Option<Stamp>,
+    seen: Option<Stamp>,
     // What was read of it; none if nothing was that is a show file.
     editor: Option<Editor>,
 }
@@ -40,7 +47,13 @@ pub enum Carried {
 impl<'a> EditedFile<'a> {
     /// The file at this path, which nobody has read yet.
     pub fn new(path: Option<&'a str>) -> EditedFile<'a> {
-        EditedFile { path, editor: None }
+        EditedFile {
+            path,
+            beats: Beat::of(LOOK),
+            looked: None,
+            seen: None,
+            editor: None,
+        }
     }
 
     /// What stands of its edits; none if there is no show file.
@@ -66,14 +79,66 @@ impl<'a> EditedFile<'a> {
         }
     }
 
+    // Whether this text is shown.
+    fn shows(&self, text: &str) -> bool {
+        match &self.editor {
+            Some(editor) => *editor.text() == *text,
+            None => false,
+        }
+    }
+
+    // What this text says, which is shown from now on; none if it is no show file.
+    fn taken(&mut self, alloc: Global, text: String) -> Option<ShowFile> {
+        let Ok(Some(file)) = file_in(alloc, text.as_str()) else {
+            return None;
+        };
+        self.take(alloc, text);
+        Some(file)
+    }
+
     /// Reads it: what it says, to be shown from now on; none if that is no show file, or cannot be read.
     pub fn reread<R: Files<File = File> + AllocGlobal>(&mut self, rt: &R) -> Option<ShowFile> {
         let text = self.text(rt)?;
-        let Ok(Some(file)) = file_in(rt.alloc(), text.as_str()) else {
+        self.taken(rt.alloc(), text)
+    }
+
+    // What the system says of it.
+    fn stamp<R: Files<File = File>>(&self, rt: &R) -> Option<Stamp> {
+        Some(Stamp::of(&fs::metadata(rt, self.path?).ok()?))
+    }
+
+    // Whether a look that found this is the second that did, and it was not read since.
+    fn rests_unread(&mut self, found: Option<Stamp>) -> bool
+        ensures rests { IsTrue result → found ≡ self.old.looked }
+        ensures looked { self.new.looked ≡ found }
+        ensures editor { self.new.editor ≡ self.old.editor }
+    {
+        let is_at_rest = found == self.looked;
+        self.looked = found;
+        is_at_rest && found != self.seen
+    }
+
+    /// What is to be shown in place of what is shown: the file, if a look is due at this moment, and finds for the
+    /// second time that somebody else has written another text. A text that the desk read before an edit is no news to
+    /// its own watch, and yet is not what is shown.
+    pub fn fresh<R: Files<File = File> + AllocGlobal>(
+        &mut self,
+        rt: &R,
+        now: u64,
+    ) -> Option<ShowFile> {
+        if !self.beats.is_due(now) {
             return None;
-        };
-        self.take(rt.alloc(), text);
-        Some(file)
+        }
+        let found = self.stamp(rt);
+        if !self.rests_unread(found) {
+            return None;
+        }
+        self.seen = found;
+        let text = self.text(rt)?;
+        if self.shows(text.as_str()) {
+            return None;
+        }
+        self.taken(rt.alloc(), text)
     }
 
     // The wish was carried out.

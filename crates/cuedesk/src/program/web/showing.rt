@@ -39,6 +39,20 @@ impl<R: Files<File = File> + Net + Clock + Eprint + AllocGlobal> Server<'_, R> {
         }
     }
 
+    /// Shows the show file that somebody else wrote, if a look is due and finds one. While a cue is live none is shown.
+    pub(super) fn show_fresh(&mut self, now: u64)
+        ensures desk { self.new.desk ≡ self.old.desk }
+        ensures identity { self.new.pages.identity ≡ self.old.pages.identity }
+        ensures guard { self.new.pages.guard ≡ self.old.pages.guard }
+    {
+        if !self.desk.view().live.is_empty() {
+            return;
+        }
+        if let Some(file) = self.edited.fresh(self.rt, now) {
+            self.show_file(file);
+        }
+    }
+
     // Shows what became of an edit: the new file; or, if somebody else changed it, what it is now.
     fn show_carried(&mut self, carried: Carried) -> Outcome
         ensures desk { self.new.desk ≡ self.old.desk }

@@ -1,6 +1,7 @@
 //! The command `board`: once as text, or again and again on a terminal. What is drawn is made by `cue_board_window`, by
 //! the newest view; here a desk is heard, and files are read beside it. A board presses nothing.
-ghost use Rattle.std.specs.Prelude.{◌≡◌, [], IfOk, OnOk, None, map, string_bytes};
+ghost use Rattle.std.specs.Prelude.{◌≡◌, IfOk, OnOk, None, map, string_bytes};
+ghost use Rattle.cue_board_window.specs.Beside.{differing_lines};
 ghost use Rattle.cue_desk.specs.declared.ending.Ending.TheVariants.{Failed};
 ghost use Rattle.cue_desk_rounds.specs.Working.{IsUntouched, OnlyLooks};
 ghost use Rattle.cuedesk.specs.Windows as windows;
@@ -116,24 +117,27 @@ impl<'a, R: Files<File = File> + Net + Clock + AllocGlobal> Board<'a, R> {
         window_lines(self.rt.alloc(), &self.shown(), log)
     }
 
-    // Why there is nothing of a relay that is watched, if that is so.
-    fn relay_lines(&self) -> Result<Vec<String>, AllocError>
-        ensures { self.now.relay ≡ None → IfOk result (λ lines. lines.items ≡ []) }
+    // What only a second or five of looking would show: why there is nothing of a relay that is watched, and that serve
+    // says otherwise than the files.
+    fn lines_beside(&self) -> Result<Vec<String>, AllocError>
+        ensures { self.now.relay ≡ None → IfOk result (λ lines. map string_bytes lines.items
+            ≡ differing_lines self.now.desk.view.differs self.now.port) }
     {
-        match self.relay {
-            Some(path) if self.desk.view().network.is_empty() => relay_lines(self.rt, path),
-            _ => Ok(Vec::new(self.rt.alloc())),
-        }
+        let mut lines = match self.relay {
+            Some(path) if self.desk.view().network.is_empty() => relay_lines(self.rt, path)?,
+            _ => Vec::new(self.rt.alloc()),
+        };
+        let differs = self.desk.view().differs;
+        lines.append(&mut differing_lines(self.rt.alloc(), differs, self.port)?)?;
+        Ok(lines)
     }
 
-    // The lines of a board that is printed once, with what only a second or five of looking would show.
+    // The lines of a board that is printed once.
     fn all_lines(&self) -> Result<Vec<String>, AllocError>
         ensures { IfOk result (λ lines. windows.BeginsWithView self.now.desk.view (map string_bytes lines.items)) }
     {
         let mut lines = self.lines()?;
-        lines.append(&mut self.relay_lines()?)?;
-        let differs = self.desk.view().differs;
-        lines.append(&mut differing_lines(self.rt.alloc(), differs, self.port)?)?;
+        lines.append(&mut self.lines_beside()?)?;
         Ok(lines)
     }
 }

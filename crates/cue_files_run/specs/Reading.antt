@@ -28,7 +28,8 @@ pub record PrintsSound (text : List ℕ) (before after : Option (List ℕ)) : Ty
 -- memory or the output failed, or what was found ends it so
 abbrev pub EndsAsFound : List ℕ → Ending → Type 0
 EndsAsFound text e =
-    (e ≡ ending.Failed) ⊎ ((e ≡ ending.Unwritten) ⊎ ((found : Found) × IsFoundIn text found × (ending_of found ≡ Some e)))
+    (e ≡ ending.Failed)
+    ⊎ ((e ≡ ending.Unwritten) ⊎ ((found : Found) × IsFoundIn text found × (ending_of found ≡ Some e)))
 
 -- the show file of a show is printed
 pub record PrintsShow (show : ShowLists) (before after : Option (List ℕ)) : Type 0 where

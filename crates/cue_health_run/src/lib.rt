@@ -1,8 +1,8 @@
-//! The files in which programs that hear buttons say how they are, beside a show file. What is written and what is shown
-//! of it is decided by `cue_health`; here are the files and their locks.
+//! The files in which programs that hear buttons say how they are, beside a show file. What is written and what is
+//! shown of it is decided by `cue_health`; here are the files and their locks.
 //!
-//! Beside `evening.toml` there are eight places, `evening.toml.buttons.1` to `.8`: a program takes the first of which no
-//! other holds the lock (`Place::take`), replaces its text whole (`Place::say`), and takes it away at its end
+//! Beside `evening.toml` there are eight places, `evening.toml.buttons.1` to `.8`: a program takes the first of which
+//! no other holds the lock (`Place::take`), replaces its text whole (`Place::say`), and takes it away at its end
 //! (`Place::leave`). Board and page look at all eight (`healths_beside`).
 //!
 //! Why it is so:

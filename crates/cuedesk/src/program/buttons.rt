@@ -68,7 +68,7 @@ fn teller_of<'a, R: Files<File = File> + Eprint + AllocGlobal>(
         Err(why) => say(
             rt,
             format_args!(
-                "nothing can be said beside {shown}: {why}: board and page do not show whether these buttons are plugged in"
+                "nothing can be said beside {shown}: {why}: board and page do not show these buttons"
             ),
         ),
     }

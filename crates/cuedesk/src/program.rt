@@ -10,6 +10,7 @@ mod beside;
 mod board;
 mod buttons;
 mod editing;
+mod inputs;
 mod locking;
 mod marks;
 mod new;

@@ -7,6 +7,7 @@ ghost use Rattle.cue_desk_rounds.specs.Working.{IsUntouched, OnlyLooks};
 ghost use Rattle.cuedesk.specs.Windows as windows;
 
 use super::beside::{read_log, relay_lines};
+use super::inputs::{InputsWatch, inputs_of};
 use super::opening::open_desk;
 use super::renewing::{Begun, Renewal, WatchedFile, begin};
 use super::sign::{SignWatch, sign_of};
@@ -50,6 +51,9 @@ where
     watch: Option<WatchedFile<'a>>,
     sign: Option<SignWatch>,
     is_rehearsed: bool,
+    inputs: Option<InputsWatch<'a>>,
+    // how the programs are that hear buttons
+    input_lines: Vec<String>,
     // what is told of the show file
     told: Option<String>,
     port: u16,
@@ -60,13 +64,18 @@ where
 }
 
 impl<'a, R: Files<File = File> + Net + Clock + AllocGlobal> Board<'a, R> {
-    // Looks for the sign of a rehearsal.
-    fn look_for_sign(&mut self) -> io::Result<()>
+    // Looks for the sign of a rehearsal, and how the programs are that hear buttons.
+    fn look_beside(&mut self) -> io::Result<()>
         ensures { self.new.desk ≡ self.old.desk }
     {
         let now = self.desk.now()?;
         if let Some(sign) = &mut self.sign {
             self.is_rehearsed = sign.look(self.rt, now);
+        }
+        if let Some(inputs) = &mut self.inputs {
+            if let Some(lines) = inputs.fresh(self.rt, now) {
+                self.input_lines = lines;
+            }
         }
         Ok(())
     }
@@ -110,11 +119,11 @@ impl<'a, R: Files<File = File> + Net + Clock + AllocGlobal> Board<'a, R> {
     fn lines(&self) -> Result<Vec<String>, AllocError>
         ensures { IfOk result (λ lines. windows.ShowsView self.now.desk.view (map string_bytes lines.items)) }
     {
-        let log = match self.log {
-            Some(path) => read_log(self.rt, path)?,
-            None => Vec::new(self.rt.alloc()),
-        };
-        window_lines(self.rt.alloc(), &self.shown(), log)
+        let mut beside = self.input_lines.clone()?;
+        if let Some(path) = self.log {
+            beside.append(&mut read_log(self.rt, path)?)?;
+        }
+        window_lines(self.rt.alloc(), &self.shown(), beside)
     }
 
     // What only a second or five of looking would show: why there is nothing of a relay that is watched, and that serve
@@ -185,7 +194,7 @@ fn print_once<R: Files<File = File> + Net + Clock + Eprint + AllocGlobal, W: Wri
     if board.desk.view().read.is_none() {
         return Err(say_unread(board.rt, board.dir));
     }
-    if let Err(why) = board.look_for_sign() {
+    if let Err(why) = board.look_beside() {
         return Err(failed(board.rt, &why));
     }
     let lines = board.all_lines()?;
@@ -203,7 +212,7 @@ fn round<R: Files<File = File> + Net + Clock + AllocGlobal>(
     board.desk.wait(PAUSE)?;
     board.desk.round()?;
     board.renew()?;
-    board.look_for_sign()?;
+    board.look_beside()?;
     Ok(pictures.is_due(board.desk.now()?))
 }
 
@@ -314,6 +323,8 @@ fn open_board<'a, R: Files<File = File> + Net + Clock + Eprint + AllocGlobal>(
         watch,
         sign,
         is_rehearsed: false,
+        inputs: inputs_of(watched.file.as_deref()),
+        input_lines: Vec::new(rt.alloc()),
         told: None,
         port,
         log: watched.log.as_deref(),

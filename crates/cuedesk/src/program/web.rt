@@ -6,6 +6,7 @@ mod changing;
 mod keeping;
 mod showing;
 
+use super::inputs::{InputsWatch, inputs_of};
 use super::locking::lock_word;
 use super::marks::MarksFile;
 use super::opening::open_desk;
@@ -52,6 +53,7 @@ where
     sign: Option<SignWatch>,
     marks: Option<MarksFile<'a>>,
     edited: EditedFile<'a>,
+    inputs: Option<InputsWatch<'a>>,
     // When the last round began.
     last: u64,
 }
@@ -107,7 +109,8 @@ impl<R: Files<File = File> + Net + Clock + Eprint + AllocGlobal> Server<'_, R> {
         }
     }
 
-    // Looks for the sign of a rehearsal, at the marks, and at the text of the show file.
+    // Looks for the sign of a rehearsal, at the programs that hear buttons, at the marks, and at the text of the show
+    // file.
     fn look_beside(&mut self) -> io::Result<()>
         ensures desk { self.new.desk ≡ self.old.desk }
         ensures identity { self.new.pages.identity ≡ self.old.pages.identity }
@@ -117,6 +120,11 @@ impl<R: Files<File = File> + Net + Clock + Eprint + AllocGlobal> Server<'_, R> {
         self.show_fresh(now);
         if let Some(sign) = &mut self.sign {
             self.pages.show_rehearsal(sign.look(self.rt, now));
+        }
+        if let Some(inputs) = &mut self.inputs {
+            if let Some(lines) = inputs.fresh(self.rt, now) {
+                self.pages.show_inputs(lines);
+            }
         }
         if let Some(marks) = &mut self.marks {
             if let Some(all) = marks.fresh(self.rt, now) {
@@ -292,6 +300,7 @@ fn open_server<'a, R: Files<File = File> + Net + Clock + Eprint + AllocGlobal>(
             sign,
             marks: None,
             edited,
+            inputs: inputs_of(web.file.as_deref()),
             last: 0,
         }),
         Err(ending) => {

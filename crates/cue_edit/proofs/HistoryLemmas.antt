@@ -8,7 +8,6 @@ use Rattle.cue_show.proofs.TextLemmas.{same_text-true}
 use Rattle.cue_show.specs.Number.{same_text}
 use Rattle.cue_edit.specs.Editor.{IsShown, stands_against}
 use Rattle.cue_edit.specs.History.{Steps, back, edited, edited_by, redone, undone, undone_with}
-use Rattle.cue_edit.specs.declared.editor.EditRefusal.{EditRefusal}
 use Rattle.cue_edit.specs.declared.editor.EditRefusal.TheVariants as refusal
 use Rattle.cue_edit.specs.declared.editor.Editor.{Editor}
 use Rattle.cue_edit.specs.declared.history.TheConstants.{MAX_STEPS}

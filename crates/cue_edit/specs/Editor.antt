@@ -1,10 +1,9 @@
 -- What becomes of a wish of a page for its show file.
-use Rattle.std.specs.Prelude.{◌≡◌, ℕ, ◌+◌, ◌==◌, ◌&&◌, ◌^◌, ◌<◌, Bool, true, false, if◌then◌else◌, List, [], Option, None, Some}
-use Rattle.std.specs.Prelude.{Result, Ok, Err, ⊤, map, is_some, option_map, String, string_bytes}
+use Rattle.std.specs.Prelude.{◌≡◌, ℕ, ◌+◌, ◌==◌, ◌&&◌, ◌^◌, ◌<◌, Bool, true, false, if◌then◌else◌, List, Option, None, Some}
+use Rattle.std.specs.Prelude.{Result, Ok, Err, ⊤, map, is_some, String, string_bytes}
 use Rattle.std.specs.declared.alloc.Global.{Global}
 use Rattle.cue_show.specs.Number.{same_text}
 use Rattle.cue_show.specs.declared.part.Part.{Part}
-use Rattle.cue_show_file.specs.declared.file.CueEntry.{CueEntry}
 use Rattle.cue_show_file.specs.declared.file.ShowFile.{ShowFile}
 use Rattle.cue_show_file.specs.Reading.{said_of}
 use Rattle.cue_show_file.specs.Said.{text_said}

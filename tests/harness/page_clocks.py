@@ -102,7 +102,7 @@ def of_restart(page, evening):
 def of_lost_file(page, evening):
     """A mark that cannot be written is said to be so."""
     evening.marks.parent.rename(evening.marks.parent.with_name("away"))
-    check("the button is there", page.waits_for(lambda: page.text("curtain") != ""))
+    check("without the file the curtain is to rise", page.shows("curtain", "Curtain up", 5))
     page.click("curtain")
     page.click("curtain")
     check("a mark that was not written is said", page.shows("words", "is not seen in the file", 5))

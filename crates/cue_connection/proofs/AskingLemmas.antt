@@ -3,7 +3,7 @@ use Rattle.std.proofs.Common.{◌≡◌, ◌∙◌, refl, sym, ap, subst, inl, i
 use Rattle.std.proofs.Common.{◌++◌, length, take, drop, Option, None, Some}
 use Rattle.std.specs.Prelude.{codes, if◌then◌else◌, nat_le, nat_lt, option_map}
 use Rattle.std.specs.Fmt.{decimal}
-use Rattle.std.proofs.lemmas.Bool.{leb-true}
+use Rattle.std.proofs.lemmas.Bool.{le-leb, leb-true}
 use Rattle.std.proofs.lemmas.List.{append-nil, drop_all, drop_at, length-take-le, take-append-drop}
 use Rattle.httparse.specs.Grammar.{ReadsRequest, RequestHead, print_request}
 use Rattle.cue_request.specs.declared.identity.PageIdentity.{PageIdentity}
@@ -196,6 +196,16 @@ now-in : (s : Scan) (identity : PageIdentity) (bytes : List ℕ) (a : Asking) �
 now-in (scan.Open p left) identity bytes a asks = long-in (nat_lt MAX_HEAD (length bytes)) identity bytes a asks
 now-in (scan.Ended n) identity bytes a asks = ended-in (nat_le n MAX_HEAD) identity n bytes a asks
 now-in scan.NoHead identity bytes a asks = refused-in identity bytes a refusal.Unreadable asks
+
+-- a head that has ended, and is not too long, is read with what follows it
+pub now_ended : (identity : PageIdentity) (s : Scan) (n : ℕ) (bytes head rest : List ℕ) (asks : Option Asking)
+    → s ≡ scan.Ended n → n ≤ MAX_HEAD → head ≡ take n bytes → rest ≡ drop n bytes
+    → AsksAfter identity head rest asks → AsksNow identity s bytes asks
+now_ended identity s n bytes head rest asks is short front back after =
+    subst (λ (x : Scan). AsksNow identity x bytes asks) (sym is)
+    (subst (λ (v : Bool). AsksEnded v identity (take n bytes) (drop n bytes) asks) (sym (le-leb n MAX_HEAD short))
+    (subst (λ (l : List ℕ). AsksAfter identity l (drop n bytes) asks) front
+    (subst (λ (l : List ℕ). AsksAfter identity head l asks) back after)))
 
 -- what a connection asks is in what came
 pub reads_in : (v : Bool) (identity : PageIdentity) (c : Connection) (a : Asking) → ReadsIf v identity c (Some a)

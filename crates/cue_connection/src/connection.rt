@@ -158,6 +158,7 @@ impl Connection {
     }
 
     // What it asks by all that came; none while that cannot be said.
+    #[tactic(auto, using(crate::proofs::AskingLemmas::now_ended))]
     fn asking(&self, identity: &PageIdentity<'_>) -> Option<Asking>
         ensures { AsksNow identity.now self.now.scan self.now.input.items result }
     {

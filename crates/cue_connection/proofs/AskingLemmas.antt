@@ -1,10 +1,11 @@
 -- What a connection asks.
 use Rattle.std.proofs.Common.{◌≡◌, ◌∙◌, refl, sym, ap, subst, inl, inr, arith, ℕ, ◌≤◌, Bool, true, false, List, []}
 use Rattle.std.proofs.Common.{◌++◌, length, take, drop, Option, None, Some}
-use Rattle.std.specs.Prelude.{codes, if◌then◌else◌, nat_le, nat_lt, option_map}
+use Rattle.std.specs.Prelude.{codes, if◌then◌else◌, min, nat_le, nat_lt, option_map}
 use Rattle.std.specs.Fmt.{decimal}
 use Rattle.std.proofs.lemmas.Bool.{le-leb, leb-true}
-use Rattle.std.proofs.lemmas.List.{append-nil, drop_all, drop_at, length-take-le, take-append-drop}
+use Rattle.std.proofs.lemmas.List.{append-nil, drop_all, drop_at, drop_min, length-take-le, take-append-drop}
+use Rattle.std.proofs.lemmas.List.{take_min}
 use Rattle.httparse.specs.Grammar.{ReadsRequest, RequestHead, print_request}
 use Rattle.cue_request.specs.declared.identity.PageIdentity.{PageIdentity}
 use Rattle.cue_request.specs.declared.lock.Said.{Said}
@@ -196,6 +197,19 @@ now-in : (s : Scan) (identity : PageIdentity) (bytes : List ℕ) (a : Asking) �
 now-in (scan.Open p left) identity bytes a asks = long-in (nat_lt MAX_HEAD (length bytes)) identity bytes a asks
 now-in (scan.Ended n) identity bytes a asks = ended-in (nat_le n MAX_HEAD) identity n bytes a asks
 now-in scan.NoHead identity bytes a asks = refused-in identity bytes a refusal.Unreadable asks
+
+-- where bytes are cut after so many, or at their end if they are fewer, both parts are what their names say
+pub front_as : (n len cut : ℕ) (bytes came front : List ℕ) → came ≡ bytes → len ≡ length bytes → cut ≡ min n len
+    → front ≡ take cut came → front ≡ take n bytes
+front_as n len cut bytes came front same long least e =
+    e ∙ ap (λ (l : List ℕ). take cut l) same
+    ∙ ap (λ (i : ℕ). take i bytes) (least ∙ ap (λ (j : ℕ). min n j) long) ∙ take_min n bytes
+
+pub back_as : (n len cut : ℕ) (bytes came back : List ℕ) → came ≡ bytes → len ≡ length bytes → cut ≡ min n len
+    → back ≡ drop cut came → back ≡ drop n bytes
+back_as n len cut bytes came back same long least e =
+    e ∙ ap (λ (l : List ℕ). drop cut l) same
+    ∙ ap (λ (i : ℕ). drop i bytes) (least ∙ ap (λ (j : ℕ). min n j) long) ∙ drop_min n bytes
 
 -- a head that has ended, and is not too long, is read with what follows it
 pub now_ended : (identity : PageIdentity) (s : Scan) (n : ℕ) (bytes head rest : List ℕ) (asks : Option Asking)

@@ -1,5 +1,5 @@
 -- A connection is served.
-use Rattle.std.proofs.Common.{◌≡◌, ◌∙◌, refl, sym, ap, subst, inl, inr, ℕ, Bool, true, false, List, [], ◌∷◌, ◌++◌}
+use Rattle.std.proofs.Common.{◌≡◌, ◌∙◌, refl, sym, ap, subst, inl, inr, ℕ, Bool, true, false, List, [], ◌∷◌, ◌++◌, set}
 use Rattle.cue_desk_rounds.specs.Working.{OnlyLooks}
 use Rattle.cue_desk_rounds.proofs.WorkLemmas.{looks_none, looks_then}
 use Rattle.cue_request.specs.declared.identity.PageIdentity.{PageIdentity}
@@ -12,6 +12,8 @@ use Rattle.cue_connection.specs.declared.stage.Stage.{Stage}
 use Rattle.cue_connection.specs.Asking.{AsksIn}
 use Rattle.cue_connection.specs.Stages.{AsksOnce, is_asking}
 use Rattle.cue_web.specs.Serving.{Answers, AreAt, HandsOn, IsServed, OnlyAsked, OnlyServed, Serves, Serving}
+use Rattle.cue_web.specs.Serving.{TellsOne}
+use Rattle.cue_web.specs.declared.wire.Wire.{Wire}
 use Rattle.cue_web.specs.Serving.{guard_after}
 
 -- ---- one connection
@@ -128,3 +130,10 @@ asked_then identity mid_identity identity_then g mid_g g_then old mid new a b =
           (subst (λ (i : PageIdentity). OnlyServed i b.servings mid new) a.identity b.heard);
       identity = b.identity ∙ a.identity;
     }
+
+-- ---- an answer that was waited for
+
+-- the one at this place asks nothing more, and the others are as they were
+pub tells_one : {S : Type 0} → (here here_then : List (Wire S)) (at : ℕ) (after : Wire S)
+    → here_then ≡ set here at after → is_asking after.connection.stage ≡ false → TellsOne here here_then
+tells_one here here_then at after stand over = inl (record { at = at; after = after; over = over; stand = stand })

@@ -1,6 +1,5 @@
 //! A port at which browsers come.
-ghost use Rattle.std.specs.Prelude.{◌≡◌, ◌+◌, ◌≤◌, [], IfOk, vec_capacity};
-ghost use Rattle.cue_web.specs.declared.connections.TheConstants.{MAX_ADMITTED, MAX_CONNECTIONS};
+ghost use Rattle.std.specs.Prelude.{◌≡◌, ◌≤◌, [], IfOk, vec_capacity};
 
 use cue_web::{self, Door, Stream};
 use mio::net::{TcpListener, TcpStream};
@@ -55,14 +54,14 @@ impl Door for WebDoor {
     }
 }
 
-/// Listens at this port of 127.0.0.1 alone. Nobody is here yet.
+/// Listens at this port of 127.0.0.1 alone. Nobody is here yet, and there is room for 128 who are here and 64 who come.
 pub fn listen<R: Net + AllocGlobal>(
     rt: &R,
     registry: &Registry,
     port: u16,
 ) -> io::Result<Connections>
     ensures nobody { IfOk result (λ connections. connections.here.items ≡ []) }
-    ensures room { IfOk result (λ connections. MAX_CONNECTIONS + MAX_ADMITTED ≤ vec_capacity connections.here) }
+    ensures room { IfOk result (λ connections. 192 ≤ vec_capacity connections.here) }
 {
     let address = SocketAddr::new(IpAddr::V4(Ipv4Addr::LOCALHOST), port);
     let mut listener = TcpListener::bind(rt, address)?;

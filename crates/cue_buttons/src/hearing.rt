@@ -162,7 +162,7 @@ impl<'a, J: Jack> Ear<'a, J> {
 
     /// Lets the jack go.
     pub fn into_jack(self) -> J
-        ensures { result ≡ self.jack }
+        ensures { result ≡ self.entry.jack }
     {
         self.jack
     }

@@ -26,10 +26,10 @@ returns-in-Err-clause-struck g c =
 
 pub returns-clause-struck : goal.returns-clause-struck
 returns-clause-struck g c =
-    goes_struck (is_ok c.hear_on.result) None None c.args.console.now.panel.player c.hear_on.new.console.panel.player
-    c.args.console.now.desk.station c.hear_on.new.console.desk.station c.args.console.now.desk.view
-    c.hear_on.new.console.desk.view (goes_from (is_ok c.hear_on.result) None None c.args.console.now.panel.player
-    c.say_keys.new.self.panel.player c.hear_on.new.console.panel.player c.args.console.now.desk.station
-    c.say_keys.new.self.desk.station c.hear_on.new.console.desk.station c.args.console.now.desk.view
-    c.say_keys.new.self.desk.view c.hear_on.new.console.desk.view c.say_keys.ensures.player (ap (λ d. d.station)
-    c.say_keys.ensures.desk) (ap (λ d. d.view) c.say_keys.ensures.desk) c.hear_on.ensures.goes)
+    goes_struck (is_ok c.hear_on-heard.result) None None c.args.console.now.panel.player c.hear_on-heard.new.console.panel.player
+    c.args.console.now.desk.station c.hear_on-heard.new.console.desk.station c.args.console.now.desk.view
+    c.hear_on-heard.new.console.desk.view (goes_from (is_ok c.hear_on-heard.result) None None c.args.console.now.panel.player
+    c.say_keys.new.self.panel.player c.hear_on-heard.new.console.panel.player c.args.console.now.desk.station
+    c.say_keys.new.self.desk.station c.hear_on-heard.new.console.desk.station c.args.console.now.desk.view
+    c.say_keys.new.self.desk.view c.hear_on-heard.new.console.desk.view c.say_keys.ensures.player (ap (λ d. d.station)
+    c.say_keys.ensures.desk) (ap (λ d. d.view) c.say_keys.ensures.desk) c.hear_on-heard.ensures.goes)

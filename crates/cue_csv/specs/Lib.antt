@@ -1,0 +1,5 @@
+pub mod Acts
+pub mod Front
+pub mod Laws
+pub mod Reading
+pub mod Writing

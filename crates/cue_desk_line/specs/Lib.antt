@@ -2,3 +2,4 @@ pub mod Edits
 pub mod Ends
 pub mod Orders
 pub mod Pages
+pub mod Tables

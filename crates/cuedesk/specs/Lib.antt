@@ -9,4 +9,5 @@ pub mod Pressing
 pub mod Relaying
 pub mod Reporting
 pub mod Sheets
+pub mod Tables
 pub mod Windows

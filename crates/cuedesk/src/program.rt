@@ -23,6 +23,7 @@ mod renewing;
 mod reporting;
 mod sheet;
 mod sign;
+mod table;
 mod web;
 
 use board::show_board;
@@ -52,6 +53,7 @@ use std::io::{Eprint, Write};
 use std::net::Net;
 use std::random::RandomSource;
 use std::time::Clock;
+use table::table_file;
 use web::serve_page;
 
 /// The port of the controller: the one that was said, else that of the show file, else 9100.
@@ -141,6 +143,7 @@ fn carry_out<R: Files<File = File> + Net + Clock + RandomSource + Eprint + Alloc
         Line::Sheet { file, html, title } => {
             print_sheet(rt, file.as_str(), title.as_str(), *html, writer)
         }
+        Line::Table { file, tabling } => table_file(rt, file.as_str(), tabling, writer),
         Line::Board {
             watched,
             once,

@@ -1,0 +1,4 @@
+mod EditLemmas
+mod LawLemmas
+mod SaidLemmas
+mod WrittenLemmas

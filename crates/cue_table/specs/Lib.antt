@@ -1,0 +1,7 @@
+pub mod Columns
+pub mod Guarding
+pub mod Laws
+pub mod Reading
+pub mod Taking
+pub mod Words
+pub mod Writing

@@ -16,11 +16,9 @@ function draw() {
   if (!view) return;
   wasDark = isDark();
   showManner();
-  showEdits();
   showStack();
   showLive();
   showWhereabouts();
-  showInputs();
   showTimes();
   showEnds();
   showSpoken();

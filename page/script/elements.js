@@ -5,8 +5,7 @@ const DARK = 1000, SURE = 3000, LATE = 250;
 const at = (id) => document.getElementById(id);
 const now = () => performance.now();
 let run = null, view = null, heard = 0, missed = 0, names = { cues: new Map(), devices: new Map() };
-let manner = { locked: false, readonly: false, told: null, rehearsed: false, marks: null,
-  edits: null, inputs: [] };
+let manner = { locked: false, readonly: false, told: null, rehearsed: false, marks: null };
 let sure = { press: "", until: 0 }, wasDark = true;
 const shown = {};
 

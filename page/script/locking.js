@@ -1,11 +1,10 @@
-// The show lock: a move of the place, a release and an edit want a word. It is kept here alone, and for a minute
-// without use.
+// The show lock: a move of the place and a release want a word. It is kept here alone, and for a minute without use.
 
 "use strict";
 const HELD = 60000;
 let word = { text: "", until: 0 }, waiting = "";
 
-const wantsWord = (press) => manner.locked && ["goto", "release", "edit"].includes(press.split(" ")[0]);
+const wantsWord = (press) => manner.locked && (press.startsWith("goto ") || press.startsWith("release "));
 const hasWord = () => word.text !== "" && now() < word.until;
 
 // The word for this press, if it wants one; a use keeps it for another minute.

@@ -3,19 +3,9 @@
 
 "use strict";
 // The rows by their cues; the cue whose row is marked as the place; and the one whose button asks once more.
-let rows = new Map(), here, wasHere, armed = null, renamed = 0;
+let rows = new Map(), here, armed = null, renamed = 0;
 
 const canMove = () => !isHeld() && view.moves;
-
-function editButton(cue) {
-  const made = make("button");
-  dress(made, false, "Edit", "Edit cue " + cue);
-  made.classList.add("edit");
-  made.id = "edit-" + cue;
-  made.type = "button";
-  made.dataset.edit = cue;
-  return made;
-}
 
 function cueRow(cue) {
   const { name, note, color } = factsOf(cue), line = make("li"), words = make("span", "words", name);
@@ -25,16 +15,13 @@ function cueRow(cue) {
   move.type = "button";
   move.dataset.cue = cue;
   for (const each of marks(cue)) words.append(" ", each);
-  const acts = make("span", "acts");
-  acts.append(move, editButton(cue));
-  line.append(make("span", "bar " + (color || "")), mark, make("span", "number", cue), words, acts);
+  line.append(make("span", "bar " + (color || "")), mark, make("span", "number", cue), words, move);
   if (note) line.append(make("span", "note", note));
   return { cue, line, mark, move };
 }
 
 function cueRows() {
   rows = new Map(view.stack.map((cue) => [cue, cueRow(cue)]));
-  wasHere = here;
   here = undefined;
   armed = null;
   return [...rows.values()].map((row) => row.line);
@@ -53,7 +40,7 @@ function toPlace() {
   if (row) showRow(row);
 }
 
-// Marks the row of the place, and scrolls to it if it has moved; rows that were made anew stay where they are.
+// Marks the row of the place, and scrolls to it if it has moved.
 function showHere() {
   if (view.next.cue === here) return;
   for (const [cue, isHere] of [[here, false], [view.next.cue, true]]) {
@@ -65,8 +52,7 @@ function showHere() {
     else row.line.removeAttribute("aria-current");
   }
   here = view.next.cue;
-  if (here !== wasHere) toPlace();
-  wasHere = undefined;
+  toPlace();
 }
 
 // Says on the row of a move that was pressed once that it asks once more.
@@ -109,11 +95,10 @@ function showStack() {
 }
 
 at("stack").addEventListener("click", (event) => {
-  const pressed = event.target.closest("button");
-  if (!pressed) return;
-  if (event.detail > 0) pressed.blur();
-  if (pressed.dataset.edit !== undefined) { if (mayEdit()) openEdit(pressed.dataset.edit, event.detail === 0); }
-  else if (canMove()) pressTwice("goto " + pressed.dataset.cue);
+  const move = event.target.closest("button");
+  if (!move || !canMove()) return;
+  if (event.detail > 0) move.blur();
+  pressTwice("goto " + move.dataset.cue);
 });
 
 at("back").addEventListener("click", (event) => {

@@ -56,7 +56,6 @@ ELSEWHERE = (
     ("cuedesk new *", "tests/runs/sheet"),
     ("cuedesk sheet *", "tests/runs/sheet"),
     ("cuedesk edit *", "tests/runs/edit"),
-    ("cuedesk table *", "tests/runs/table"),
     ("cuedesk report *", "tests/runs/report: it wants the log of an evening"),
     ("cuedesk mark *", "tests/runs/report"),
     ("cuedesk go --wait*", "tests/runs/buttons"),

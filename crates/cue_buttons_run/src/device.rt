@@ -1,18 +1,15 @@
 //! The device that stands at a path.
 ghost use Rattle.std.specs.Prelude.{◌≡◌, None, length};
-ghost use Rattle.cue_buttons.specs.Telling.{EndsAt, IsWithin, TakesOff};
+ghost use Rattle.cue_buttons_run.specs.Telling.{EndsAt, IsWithin, TakesOff};
 ghost use Rattle.cue_buttons_run.specs.Waiting.{found_nothing, was_interrupted};
 
-use crate::teller::Teller;
-use cue_buttons::{Came, Jack};
-use cue_health::Plug;
+use crate::jack::{Came, Jack};
 use mio::unix::SourceFd;
 use mio::{Interest, Registry, Token};
 use std::fs::{self, File, Files, Metadata, OpenOptions};
 use std::io::{self, ErrorKind, Read};
 use std::os::fd::AsRawFd;
 use std::os::unix::fs::{FileTypeExt, MetadataExt};
-use std::time::Clock;
 
 /// The token of the device in a poll.
 const BYTES: Token = Token(3);
@@ -34,13 +31,9 @@ struct Device {
 
 /// The jack of the device at a path. It shows nothing of what it told.
 #[derive(Drop)]
-pub struct PathJack<'a, R> {
-    rt: &'a R,
+pub struct PathJack<'a> {
     path: &'a str,
-    registry: Registry,
     device: Option<Device>,
-    // Who says beside the show file how the input is, if there is one.
-    teller: Option<Teller<'a>>,
 }
 
 // Whether a call that failed so only found nothing at this moment.
@@ -90,7 +83,7 @@ fn wake(registry: &Registry, file: &File) {
 }
 
 // Reads what is there, into this room: no byte is made up, none is lost, and none is read twice.
-#[tactic(auto, using(cue_buttons::proofs::TellingLemmas::takes_none))]
+#[tactic(auto, using(crate::proofs::TellingLemmas::takes_none))]
 fn read_from<F: Read>(file: &mut F, room: &mut [u8]) -> Came
     ensures within { IsWithin result (length room.new) }
     ensures takes { TakesOff result room.new (F.remaining file.old) (F.remaining file.new) }
@@ -124,47 +117,28 @@ impl Device {
     }
 }
 
-impl<'a, R: Files<File = File> + Clock + AllocGlobal> PathJack<'a, R> {
-    /// The jack at this path; nothing is open. What comes of its device wakes the poll of this registry, and this teller
-    /// says how the input is.
-    pub fn new(
-        rt: &'a R,
-        path: &'a str,
-        registry: Registry,
-        teller: Option<Teller<'a>>,
-    ) -> PathJack<'a, R> {
-        PathJack {
-            rt,
-            path,
-            registry,
-            device: None,
-            teller,
-        }
-    }
-
-    /// Takes away what the teller said: the program ends.
-    pub fn leave(&self) {
-        if let Some(teller) = &self.teller {
-            teller.leave(self.rt);
-        }
+impl<'a> PathJack<'a> {
+    /// The jack at this path; nothing is open.
+    pub fn new(path: &'a str) -> PathJack<'a> {
+        PathJack { path, device: None }
     }
 }
 
-impl<R: Files<File = File> + Clock + AllocGlobal> Jack for PathJack<'_, R> {
+impl Jack for PathJack<'_> {
     ghost told = { λ _. None };
 
     fn is_open(&self) -> bool {
         self.device.is_some()
     }
 
-    fn open(&mut self) -> io::Result<()> {
-        self.device = Some(Device::open(self.rt, &self.registry, self.path)?);
+    fn open<R: Files<File = File>>(&mut self, rt: &R, registry: &Registry) -> io::Result<()> {
+        self.device = Some(Device::open(rt, registry, self.path)?);
         Ok(())
     }
 
-    fn is_here(&self) -> bool {
+    fn is_here<R: Files<File = File>>(&self, rt: &R) -> bool {
         match &self.device {
-            Some(device) => device.is_at(self.rt, self.path),
+            Some(device) => device.is_at(rt, self.path),
             None => false,
         }
     }
@@ -173,12 +147,6 @@ impl<R: Files<File = File> + Clock + AllocGlobal> Jack for PathJack<'_, R> {
         match &mut self.device {
             Some(device) => read_from(&mut device.file, room),
             None => Came::Interrupted,
-        }
-    }
-
-    fn note(&mut self, plug: Plug, now: u64) {
-        if let Some(teller) = &mut self.teller {
-            teller.tell(self.rt, plug, now);
         }
     }
 

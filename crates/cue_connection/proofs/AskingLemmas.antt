@@ -1,11 +1,10 @@
 -- What a connection asks.
 use Rattle.std.proofs.Common.{◌≡◌, ◌∙◌, refl, sym, ap, subst, inl, inr, arith, ℕ, ◌≤◌, Bool, true, false, List, []}
 use Rattle.std.proofs.Common.{◌++◌, length, take, drop, Option, None, Some}
-use Rattle.std.specs.Prelude.{codes, if◌then◌else◌, min, nat_le, nat_lt, option_map}
+use Rattle.std.specs.Prelude.{codes, if◌then◌else◌, nat_le, nat_lt, option_map}
 use Rattle.std.specs.Fmt.{decimal}
-use Rattle.std.proofs.lemmas.Bool.{le-leb, leb-true}
-use Rattle.std.proofs.lemmas.List.{append-nil, drop_all, drop_at, drop_min, length-take-le, take-append-drop}
-use Rattle.std.proofs.lemmas.List.{take_min}
+use Rattle.std.proofs.lemmas.Bool.{leb-true}
+use Rattle.std.proofs.lemmas.List.{append-nil, drop_all, length-take-le, take-append-drop}
 use Rattle.httparse.specs.Grammar.{ReadsRequest, RequestHead, print_request}
 use Rattle.cue_request.specs.declared.identity.PageIdentity.{PageIdentity}
 use Rattle.cue_request.specs.declared.lock.Said.{Said}
@@ -17,11 +16,9 @@ use Rattle.cue_request.specs.declared.request.Refusal.TheVariants as refusal
 use Rattle.cue_request.specs.declared.request.TheConstants.{MAX_HEAD}
 use Rattle.cue_request.specs.Identity.{IsFromPage}
 use Rattle.cue_request.specs.Locks.{said_at}
-use Rattle.cue_request.specs.Requests.{IsHeadOf, IsPostHead, IsPosted, OnBody, field, most_of}
-use Rattle.cue_request.specs.declared.request.Post.{Post}
-use Rattle.cue_request.specs.declared.request.Post.TheVariants as post
+use Rattle.cue_request.specs.Requests.{IsCommand, IsCommandHead, IsHeadOf, OnCommand, field}
 use Rattle.cue_connection.specs.Asking.{AsksAfter, AsksBy, AsksEnded, AsksFor, AsksIn, AsksNow, BodyAsks, BodyAsksIf}
-use Rattle.cue_connection.specs.Asking.{EditAsksIf, IsPostThat}
+use Rattle.cue_connection.specs.Asking.{IsCommandThat}
 use Rattle.cue_connection.specs.Connecting.{ReadsIf}
 use Rattle.cue_connection.specs.declared.asking.Asking.{Asking}
 use Rattle.cue_connection.specs.declared.asking.Asking.TheVariants as asking
@@ -55,13 +52,13 @@ sent-by identity head read is sent =
     (subst (λ (x : Option (List ℕ)). IsFromPage identity (option_map (λ v. v.now) head.host)
     (option_map (λ v. v.now) head.origin) x) is.token sent))
 
--- the head of a command or an edit is one with any body after it that is as long as it says
-posted-with : (identity : PageIdentity) (to : Post) (bytes rest : List ℕ) (head : Head) (read : RequestHead) (size : ℕ)
-    → ReadsRequest bytes read (drop (length bytes) bytes) → IsHeadOf head read → IsPostHead identity head to size
-    → size ≤ length rest → IsPosted identity to (bytes ++ rest) (take size rest) (word-of head)
-posted-with identity to bytes rest head read size reads is command long =
+-- the head of a command is one with any body after it that is as long as it says
+command-with : (identity : PageIdentity) (bytes rest : List ℕ) (head : Head) (read : RequestHead) (size : ℕ)
+    → ReadsRequest bytes read (drop (length bytes) bytes) → IsHeadOf head read → IsCommandHead identity head size
+    → size ≤ length rest → IsCommand identity (bytes ++ rest) (take size rest) (word-of head)
+command-with identity bytes rest head read size reads is command long =
     let same : length (take size rest) ≡ size = length-take-le size rest long in
-    let short : size ≤ most_of to = command.short in
+    let short : size ≤ 256 = command.short in
     record {
       played = command.played;
       read = read;
@@ -70,38 +67,27 @@ posted-with identity to bytes rest head read size reads is command long =
       method = sym is.method ∙ command.method;
       target = sym is.target ∙ command.target;
       sent = sent-by identity head read is command.sent;
-      short = subst (λ n. n ≤ most_of to) (sym same) short;
+      short = omega arith;
       whole = sym is.length ∙ command.length ∙ ap (λ n. Some (decimal n)) (sym same);
       follows = ap (λ n. take n rest) (sym same);
       says = is.word;
     }
 
--- and it says what its head says of the word
-post-that : (identity : PageIdentity) (to : Post) (bytes rest : List ℕ) (head : Head) (read : RequestHead)
-    (start size : ℕ) (said : Said) → ReadsRequest bytes read (drop start bytes) → start ≡ length bytes
-    → IsHeadOf head read → IsPostHead identity head to size → size ≤ length rest
-    → said ≡ said_at identity.purpose (word-of head)
-    → IsPostThat identity to (bytes ++ rest) (take size rest) said
-post-that identity to bytes rest head read start size said reads same is command long says =
-    let whole : ReadsRequest bytes read (drop (length bytes) bytes) =
-    subst (λ (n : ℕ). ReadsRequest bytes read (drop n bytes)) same reads in
-    record {
-      word = word-of head;
-      posted = posted-with identity to bytes rest head read size whole is command long;
-      says = says;
-    }
-
 pub asks_by : (identity : PageIdentity) (bytes : List ℕ) (head : Head) (read : RequestHead) (start : ℕ) (a : Asked)
     (said : Said) → ReadsRequest bytes read (drop start bytes) → start ≡ length bytes → IsHeadOf head read
-    → OnBody a (IsPostHead identity head) → said ≡ said_at identity.purpose (word-of head)
+    → OnCommand a (IsCommandHead identity head) → said ≡ said_at identity.purpose (word-of head)
     → AsksBy identity bytes (record { asked = a; said = said })
 asks_by identity bytes head read start asked.Page said reads same is command says = tt
 asks_by identity bytes head read start asked.Board said reads same is command says = tt
 asks_by identity bytes head read start asked.ShowFile said reads same is command says = tt
 asks_by identity bytes head read start (asked.Command size) said reads same is command says = λ rest long.
-    post-that identity post.Command bytes rest head read start size said reads same is command long says
-asks_by identity bytes head read start (asked.Edit size) said reads same is command says = λ rest long.
-    post-that identity post.Edit bytes rest head read start size said reads same is command long says
+    let whole : ReadsRequest bytes read (drop (length bytes) bytes) =
+    subst (λ (n : ℕ). ReadsRequest bytes read (drop n bytes)) same reads in
+    record {
+      word = word-of head;
+      command = command-with identity bytes rest head read size whole is command long;
+      says = says;
+    }
 
 -- ---- what is asked came
 
@@ -114,7 +100,7 @@ refused-in identity bytes a why same =
 
 -- what a body asks is in a command
 body-in : (identity : PageIdentity) (bytes body : List ℕ) (said : Said) (a : Asking)
-    → IsPostThat identity post.Command bytes body said → BodyAsks body said a → AsksIn identity bytes a
+    → IsCommandThat identity bytes body said → BodyAsks body said a → AsksIn identity bytes a
 body-in identity bytes body said asking.Page command asks = tt
 body-in identity bytes body said asking.View command asks = tt
 body-in identity bytes body said asking.ShowFile command asks = tt
@@ -123,43 +109,24 @@ body-in identity bytes body said (asking.Press (Some p)) command asks =
     record {
       body = body;
       word = command.word;
-      command = command.posted;
+      command = command.command;
       names = asks.0.names;
       says = asks.0.says ∙ command.says;
     }
 body-in identity bytes body said (asking.Mark c) command asks =
-    record { body = body; word = command.word; command = command.posted; says = asks }
-body-in identity bytes body said (asking.Edit e) command asks = absurd asks
+    record { body = body; word = command.word; command = command.command; says = asks }
 body-in identity bytes body said (asking.Refused why) command asks = tt
 
 command-in : (v : Bool) (identity : PageIdentity) (head rest : List ℕ) (size : ℕ) (said : Said) (a : Asking)
     → nat_le size (length rest) ≡ v
-    → ((more : List ℕ) → size ≤ length more → IsPostThat identity post.Command (head ++ more) (take size more) said)
+    → ((more : List ℕ) → size ≤ length more → IsCommandThat identity (head ++ more) (take size more) said)
     → BodyAsksIf v (take size rest) said (Some a) → AsksIn identity (head ++ rest) a
 command-in true identity head rest size said a whole by asks =
     body-in identity (head ++ rest) (take size rest) said a (by rest (leb-true size (length rest) whole)) asks
 command-in false identity head rest size said a whole by asks = absurd cc
 
--- the body of an edit is what follows the head
-edit-in : (v : Bool) (identity : PageIdentity) (head rest : List ℕ) (size : ℕ) (said : Said) (a : Asking)
-    → nat_le size (length rest) ≡ v
-    → ((more : List ℕ) → size ≤ length more → IsPostThat identity post.Edit (head ++ more) (take size more) said)
-    → EditAsksIf v (length head) size said (Some a) → AsksIn identity (head ++ rest) a
-edit-in true identity head rest size said a whole by asks =
-    let e : a ≡ asking.Edit (record { start = length head; size = size; said = said }) = cc in
-    let that = by rest (leb-true size (length rest) whole) in
-    let stands : take size rest ≡ take size (drop (length head) (head ++ rest)) =
-    ap (λ l. take size l) (sym (drop_at head rest (length head) refl)) in
-    subst (λ (x : Asking). AsksIn identity (head ++ rest) x) (sym e)
-    (record {
-      word = that.word;
-      edit = subst (λ (l : List ℕ). IsPosted identity post.Edit (head ++ rest) l that.word) stands that.posted;
-      says = that.says;
-    })
-edit-in false identity head rest size said a whole by asks = absurd cc
-
 for-in : (q : Asked) (identity : PageIdentity) (head rest : List ℕ) (said : Said) (a : Asking)
-    → AsksBy identity head (record { asked = q; said = said }) → AsksFor q said (length head) rest (Some a)
+    → AsksBy identity head (record { asked = q; said = said }) → AsksFor q said rest (Some a)
     → AsksIn identity (head ++ rest) a
 for-in asked.Page identity head rest said a by asks =
     let e : a ≡ asking.Page = cc in
@@ -172,8 +139,6 @@ for-in asked.ShowFile identity head rest said a by asks =
     subst (λ (x : Asking). AsksIn identity (head ++ rest) x) (sym e) tt
 for-in (asked.Command size) identity head rest said a by asks =
     command-in (nat_le size (length rest)) identity head rest size said a refl by asks
-for-in (asked.Edit size) identity head rest said a by asks =
-    edit-in (nat_le size (length rest)) identity head rest size said a refl by asks
 
 after-in : (identity : PageIdentity) (head rest : List ℕ) (a : Asking) → AsksAfter identity head rest (Some a)
     → AsksIn identity (head ++ rest) a
@@ -197,29 +162,6 @@ now-in : (s : Scan) (identity : PageIdentity) (bytes : List ℕ) (a : Asking) �
 now-in (scan.Open p left) identity bytes a asks = long-in (nat_lt MAX_HEAD (length bytes)) identity bytes a asks
 now-in (scan.Ended n) identity bytes a asks = ended-in (nat_le n MAX_HEAD) identity n bytes a asks
 now-in scan.NoHead identity bytes a asks = refused-in identity bytes a refusal.Unreadable asks
-
--- where bytes are cut after so many, or at their end if they are fewer, both parts are what their names say
-pub front_as : (n len cut : ℕ) (bytes came front : List ℕ) → came ≡ bytes → len ≡ length bytes → cut ≡ min n len
-    → front ≡ take cut came → front ≡ take n bytes
-front_as n len cut bytes came front same long least e =
-    e ∙ ap (λ (l : List ℕ). take cut l) same
-    ∙ ap (λ (i : ℕ). take i bytes) (least ∙ ap (λ (j : ℕ). min n j) long) ∙ take_min n bytes
-
-pub back_as : (n len cut : ℕ) (bytes came back : List ℕ) → came ≡ bytes → len ≡ length bytes → cut ≡ min n len
-    → back ≡ drop cut came → back ≡ drop n bytes
-back_as n len cut bytes came back same long least e =
-    e ∙ ap (λ (l : List ℕ). drop cut l) same
-    ∙ ap (λ (i : ℕ). drop i bytes) (least ∙ ap (λ (j : ℕ). min n j) long) ∙ drop_min n bytes
-
--- a head that has ended, and is not too long, is read with what follows it
-pub now_ended : (identity : PageIdentity) (s : Scan) (n : ℕ) (bytes head rest : List ℕ) (asks : Option Asking)
-    → s ≡ scan.Ended n → n ≤ MAX_HEAD → head ≡ take n bytes → rest ≡ drop n bytes
-    → AsksAfter identity head rest asks → AsksNow identity s bytes asks
-now_ended identity s n bytes head rest asks is short front back after =
-    subst (λ (x : Scan). AsksNow identity x bytes asks) (sym is)
-    (subst (λ (v : Bool). AsksEnded v identity (take n bytes) (drop n bytes) asks) (sym (le-leb n MAX_HEAD short))
-    (subst (λ (l : List ℕ). AsksAfter identity l (drop n bytes) asks) front
-    (subst (λ (l : List ℕ). AsksAfter identity head l asks) back after)))
 
 -- what a connection asks is in what came
 pub reads_in : (v : Bool) (identity : PageIdentity) (c : Connection) (a : Asking) → ReadsIf v identity c (Some a)

@@ -18,6 +18,6 @@ words_data words = object (member (codes "words") (string words) no_members)
 abbrev pub words_text : List ℕ → List ℕ
 words_text words = compact_text (words_data words)
 
--- a sentence as an answer
-abbrev pub words_answer : Outcome → List ℕ → List ℕ
-words_answer outcome words = json_answer outcome (words_text words)
+-- that there is no answer, and why
+abbrev pub trouble_answer : Outcome → List ℕ → List ℕ
+trouble_answer outcome words = json_answer outcome (words_text words)

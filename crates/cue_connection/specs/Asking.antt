@@ -11,13 +11,10 @@ use Rattle.cue_request.specs.declared.request.Refusal.TheVariants as refusal
 use Rattle.cue_request.specs.declared.request.TheConstants.{MAX_HEAD}
 use Rattle.cue_request.specs.Locks.{said_at}
 use Rattle.cue_request.specs.Presses.{body_of}
-use Rattle.cue_request.specs.Requests.{IsPosted, OnBody}
-use Rattle.cue_request.specs.declared.request.Post.{Post}
-use Rattle.cue_request.specs.declared.request.Post.TheVariants as post
+use Rattle.cue_request.specs.Requests.{IsCommand, OnCommand}
 use Rattle.cue_connection.specs.Marking.{curtain_of}
 use Rattle.cue_connection.specs.declared.asking.Asking.{Asking}
 use Rattle.cue_connection.specs.declared.asking.Asking.TheVariants as asking
-use Rattle.cue_connection.specs.declared.asking.EditBody.{EditBody}
 use Rattle.cue_connection.specs.declared.asking.Pressed.{Pressed}
 use Rattle.cue_connection.specs.declared.asking.Wish.{Wish}
 use Rattle.cue_connection.specs.declared.marking.CurtainMove.{CurtainMove}
@@ -31,7 +28,7 @@ use Rattle.cue_connection.specs.declared.scanning.Scan.TheVariants as scan
 pub record IsPressIn (identity : PageIdentity) (bytes : List ℕ) (p : Pressed) : Type 0 where
   pub body : List ℕ
   pub word : Option (List ℕ)
-  pub command : IsPosted identity post.Command bytes body word
+  pub command : IsCommand identity bytes body word
   pub names : body ≡ body_of p.view p.button
   pub says : p.said ≡ said_at identity.purpose word
 
@@ -39,40 +36,28 @@ pub record IsPressIn (identity : PageIdentity) (bytes : List ℕ) (p : Pressed) 
 pub record IsMarkIn (identity : PageIdentity) (bytes : List ℕ) (c : CurtainMove) : Type 0 where
   pub body : List ℕ
   pub word : Option (List ℕ)
-  pub command : IsPosted identity post.Command bytes body word
+  pub command : IsCommand identity bytes body word
   pub says : curtain_of body ≡ Some c
 
--- the body of an edit, in what came of its request
-abbrev pub body_in : EditBody → List ℕ → List ℕ
-body_in e bytes = take e.size (drop e.start bytes)
-
--- What came from a connection is an edit of our own page with this body, and it says this of the word of the lock.
-pub record IsEditIn (identity : PageIdentity) (bytes : List ℕ) (e : EditBody) : Type 0 where
-  pub word : Option (List ℕ)
-  pub edit : IsPosted identity post.Edit bytes (body_in e bytes) word
-  pub says : e.said ≡ said_at identity.purpose word
-
--- if it asks for a press, a mark or an edit, what came is one
+-- if it asks for a press or a mark, what came is one
 abbrev pub AsksIn : PageIdentity → List ℕ → Asking → Type 0
 AsksIn identity bytes (asking.Press (Some p)) = IsPressIn identity bytes p
 AsksIn identity bytes (asking.Mark c) = IsMarkIn identity bytes c
-AsksIn identity bytes (asking.Edit e) = IsEditIn identity bytes e
 AsksIn identity bytes _ = ⊤
 
 -- ---- what a head asks
 
--- These bytes are a command or an edit with this body, and it says this of the word of the lock.
-pub record IsPostThat (identity : PageIdentity) (to : Post) (bytes body : List ℕ) (said : Said) : Type 0 where
+-- These bytes are a command with this body, and it says this of the word of the lock.
+pub record IsCommandThat (identity : PageIdentity) (bytes body : List ℕ) (said : Said) : Type 0 where
   pub word : Option (List ℕ)
-  pub posted : IsPosted identity to bytes body word
+  pub command : IsCommand identity bytes body word
   pub says : said ≡ said_at identity.purpose word
 
--- A head wishes this: if it wishes a command or an edit, then it is one with any body after it that is as long as it
--- says.
+-- A head wishes this: if it wishes a command, then it is one with any body after it that is as long as it says.
 abbrev pub AsksBy : PageIdentity → List ℕ → Wish → Type 0
 AsksBy identity head wish =
-    OnBody wish.asked (λ to size. (rest : List ℕ) → size ≤ length rest
-    → IsPostThat identity to (head ++ rest) (take size rest) wish.said)
+    OnCommand wish.asked (λ size. (rest : List ℕ) → size ≤ length rest
+    → IsCommandThat identity (head ++ rest) (take size rest) wish.said)
 
 -- ---- what is asked with the body
 
@@ -93,29 +78,20 @@ abbrev pub BodyAsksIf : Bool → List ℕ → Said → Option Asking → Type 0
 BodyAsksIf true body said asks = IsSomeAnd asks (BodyAsks body said)
 BodyAsksIf false body said asks = asks ≡ None
 
--- an edit is asked once its body has come whole, which begins after the head
-abbrev pub EditAsksIf : Bool → (start size : ℕ) → Said → Option Asking → Type 0
-EditAsksIf true start size said asks = asks ≡ Some (asking.Edit (record { start = start; size = size; said = said }))
-EditAsksIf false start size said asks = asks ≡ None
+abbrev pub AsksFor : Asked → Said → List ℕ → Option Asking → Type 0
+AsksFor asked.Page said rest asks = asks ≡ Some asking.Page
+AsksFor asked.Board said rest asks = asks ≡ Some asking.View
+AsksFor asked.ShowFile said rest asks = asks ≡ Some asking.ShowFile
+AsksFor (asked.Command size) said rest asks = BodyAsksIf (nat_le size (length rest)) (take size rest) said asks
 
-abbrev pub EditAsks : (start size : ℕ) → Said → List ℕ → Option Asking → Type 0
-EditAsks start size said rest asks = EditAsksIf (nat_le size (length rest)) start size said asks
-
-abbrev pub AsksFor : Asked → Said → (start : ℕ) → List ℕ → Option Asking → Type 0
-AsksFor asked.Page said start rest asks = asks ≡ Some asking.Page
-AsksFor asked.Board said start rest asks = asks ≡ Some asking.View
-AsksFor asked.ShowFile said start rest asks = asks ≡ Some asking.ShowFile
-AsksFor (asked.Command size) said start rest asks = BodyAsksIf (nat_le size (length rest)) (take size rest) said asks
-AsksFor (asked.Edit size) said start rest asks = EditAsks start size said rest asks
-
--- a head of so many bytes that wishes this asks so, with what follows it
-abbrev pub AsksWith : Wish → (start : ℕ) → List ℕ → Option Asking → Type 0
-AsksWith wish start rest asks = AsksFor wish.asked wish.said start rest asks
+-- a head that wishes this asks so, with what follows it
+abbrev pub AsksWith : Wish → List ℕ → Option Asking → Type 0
+AsksWith wish rest asks = AsksFor wish.asked wish.said rest asks
 
 -- A head that has ended asks what it wishes, as soon as its body is whole; or it is refused.
 abbrev pub AsksAfter : PageIdentity → (head rest : List ℕ) → Option Asking → Type 0
 AsksAfter identity head rest asks =
-    ((wish : Wish) × AsksBy identity head wish × AsksWith wish (length head) rest asks)
+    ((wish : Wish) × AsksBy identity head wish × AsksWith wish rest asks)
     ⊎ ((why : Refusal) × (asks ≡ Some (asking.Refused why)))
 
 -- a head that has ended is read, unless it is too long

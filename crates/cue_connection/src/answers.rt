@@ -2,7 +2,7 @@
 ghost use Rattle.std.specs.Prelude.{◌≡◌, IfOk, string_bytes};
 ghost use Rattle.serde_json.specs.View.{view};
 ghost use Rattle.cue_request.specs.Answers as answers;
-ghost use Rattle.cue_connection.specs.Answers.{json_answer, words_answer, words_data, words_text};
+ghost use Rattle.cue_connection.specs.Answers.{json_answer, trouble_answer, words_data, words_text};
 ghost use Rattle.cue_request.specs.declared.answering.Outcome.TheVariants as outcome;
 
 use cue_request::answering::{Kind, NOTHING, Outcome, answer, refusal_words};
@@ -31,9 +31,9 @@ fn words_text(alloc: Global, words: &str) -> Result<String, AllocError>
     words_value(alloc, words)?.to_string(alloc)
 }
 
-/// A sentence that is shown: what was done, or why nothing was.
-pub fn words_answer(alloc: Global, outcome: Outcome, words: &str) -> Result<String, AllocError>
-    ensures { IfOk result (λ whole. string_bytes whole ≡ words_answer outcome words.now) }
+/// That there is no answer, and why: a sentence that is shown.
+pub fn trouble_answer(alloc: Global, outcome: Outcome, words: &str) -> Result<String, AllocError>
+    ensures { IfOk result (λ whole. string_bytes whole ≡ trouble_answer outcome words.now) }
 {
     let text = words_text(alloc, words)?;
     json_answer(alloc, outcome, text.as_str())
@@ -42,7 +42,7 @@ pub fn words_answer(alloc: Global, outcome: Outcome, words: &str) -> Result<Stri
 /// That a request is refused, and why.
 pub fn refused_answer(alloc: Global, refusal: Refusal) -> Result<String, AllocError>
     ensures { IfOk result (λ whole. string_bytes whole
-        ≡ words_answer (outcome.Refused refusal) (answers.refusal_words refusal)) }
+        ≡ trouble_answer (outcome.Refused refusal) (answers.refusal_words refusal)) }
 {
-    words_answer(alloc, Outcome::Refused(refusal), refusal_words(refusal))
+    trouble_answer(alloc, Outcome::Refused(refusal), refusal_words(refusal))
 }

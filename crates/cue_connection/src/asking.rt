@@ -1,6 +1,6 @@
 //! What a request asks: its head is read once it has ended, and its body once it is as long as the head says.
 ghost use Rattle.std.specs.Prelude.{◌≡◌, ◌≤◌, take, IfOk, IfSome};
-ghost use Rattle.cue_connection.specs.Asking.{AsksAfter, AsksBy, AsksWith, EditAsks, IsPressOf, body_in};
+ghost use Rattle.cue_connection.specs.Asking.{AsksAfter, AsksBy, AsksWith, IsPressOf};
 
 use crate::marking::{CurtainMove, read_mark};
 use cue_request::identity::PageIdentity;
@@ -19,27 +19,6 @@ pub struct Pressed {
     pub said: Said,
 }
 
-/// An edit that came: where its body stands in what came of the request.
-#[derive(Clone, Copy, Debug, PartialEq, Eq)]
-pub struct EditBody {
-    /// After how many bytes it begins.
-    pub start: usize,
-    /// How many bytes it has.
-    pub size: usize,
-    /// What the request says of the word of the lock.
-    pub said: Said,
-}
-
-impl EditBody {
-    /// The body, of all that came of its request.
-    pub fn of(self, came: &[u8]) -> &[u8]
-        ensures { result.now ≡ body_in self came.now }
-    {
-        let rest = came.get(self.start..).unwrap_or(&[]);
-        rest.get(..self.size).unwrap_or(rest)
-    }
-}
-
 /// What a connection asks.
 #[derive(Clone, Copy, Debug, PartialEq, Eq)]
 pub enum Asking {
@@ -51,8 +30,6 @@ pub enum Asking {
     Press(Option<Pressed>),
     /// That the curtain moves.
     Mark(CurtainMove),
-    /// That the show file is changed.
-    Edit(EditBody),
     /// Nothing that is carried out.
     Refused(Refusal),
 }
@@ -90,21 +67,9 @@ fn pressed_in(body: &[u8], said: Said) -> Option<Pressed>
     Some(Pressed { view, button, said })
 }
 
-// The edit whose body begins after so many bytes of what came, with what follows there; none while it has not come
-// whole.
-fn edit_with(start: usize, size: usize, said: Said, rest: &[u8]) -> Option<Asking>
-    ensures { EditAsks start size said rest.now result }
-{
-    if rest.len() < size {
-        return None;
-    }
-    Some(Asking::Edit(EditBody { start, size, said }))
-}
-
-// What is asked by a head of so many bytes that wishes this, with what follows it; none while its body has not come
-// whole.
-fn asking_with(wish: Wish, start: usize, rest: &[u8]) -> Option<Asking>
-    ensures { AsksWith wish start rest.now result }
+// What is asked by a head that wishes this, with what follows it; none while its body has not come whole.
+fn asking_with(wish: Wish, rest: &[u8]) -> Option<Asking>
+    ensures { AsksWith wish rest.now result }
 {
     match wish.asked {
         Asked::Page => Some(Asking::Page),
@@ -117,7 +82,6 @@ fn asking_with(wish: Wish, start: usize, rest: &[u8]) -> Option<Asking>
                 None => Some(Asking::Press(pressed_in(body, wish.said))),
             }
         }
-        Asked::Edit(size) => edit_with(start, size, wish.said, rest),
     }
 }
 
@@ -126,7 +90,7 @@ pub(crate) fn asking_after(identity: &PageIdentity<'_>, head: &[u8], rest: &[u8]
     ensures { AsksAfter identity.now head.now rest.now result }
 {
     match wish_of(identity, head) {
-        Ok(wish) => asking_with(wish, head.len(), rest),
+        Ok(wish) => asking_with(wish, rest),
         Err(refusal) => Some(Asking::Refused(refusal)),
     }
 }

@@ -10,15 +10,15 @@ use crate::asking::{Asking, asking_after};
 use crate::scanning::Scan;
 use crate::stage::Stage;
 use cue_request::identity::PageIdentity;
-use cue_request::request::{MAX_EDIT, MAX_HEAD, Refusal};
+use cue_request::request::{MAX_BODY, MAX_HEAD, Refusal};
 use std::alloc::Global;
 use std::mem;
 
 /// How long a connection has for its request, and again for its answer, in milliseconds.
 pub const PATIENCE: u64 = 1_000;
 
-/// How many bytes of a connection are kept: the longest head, and the longest body, that of an edit.
-pub const MAX_INPUT: usize = MAX_HEAD + MAX_EDIT;
+/// How many bytes of a connection are kept: the longest head, and the longest body.
+pub const MAX_INPUT: usize = MAX_HEAD + MAX_BODY;
 
 /// What a connection is answered.
 #[derive(Drop)]
@@ -98,13 +98,6 @@ impl Connection {
         self.stage
     }
 
-    /// What came of its request so far.
-    pub fn came(&self) -> &[u8]
-        ensures { result.now ≡ self.now.input.items }
-    {
-        self.input.as_slice()
-    }
-
     /// Whether more of it is read now: of its request, until as much is kept as may be, or nothing more comes; and
     /// after its answer what is left, which is dropped.
     pub fn reads(&self) -> bool
@@ -158,7 +151,6 @@ impl Connection {
     }
 
     // What it asks by all that came; none while that cannot be said.
-    #[tactic(auto, using(crate::proofs::AskingLemmas::now_ended))]
     fn asking(&self, identity: &PageIdentity<'_>) -> Option<Asking>
         ensures { AsksNow identity.now self.now.scan self.now.input.items result }
     {

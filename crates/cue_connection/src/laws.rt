@@ -25,15 +25,15 @@ pub fn nothing_after()
     ensures { NothingAfter }
 {}
 
-/// Whatever comes, at most 12,288 bytes of it are kept.
+/// Whatever comes, at most 8,448 bytes of it are kept.
 pub fn keeps_little()
     ensures { KeepsLittle }
 {}
 
-/// A connection has a second for its request and a second for its answer, at most 12,288 bytes of it are kept, and a
+/// A connection has a second for its request and a second for its answer, at most 8,448 bytes of it are kept, and a
 /// head has at most 64 fields.
 pub fn limits()
     ensures patience { PATIENCE ≡ 1000 }
-    ensures input { MAX_INPUT ≡ 12288 }
+    ensures input { MAX_INPUT ≡ 8448 }
     ensures fields { MAX_FIELDS ≡ 64 }
 {}

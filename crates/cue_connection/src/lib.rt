@@ -13,7 +13,7 @@
 //!   at once.
 //! - What its first word already says is no request, as a greeting of TLS, is refused at once; so is a head of more
 //!   than 64 fields.
-//! - At most 12,288 bytes are kept: the longest head and the longest body. More cannot change what is asked.
+//! - At most 8,448 bytes are kept: the longest head and the longest body. More cannot change what is asked.
 //! - Who closes only its own way of speaking, as `nc` does, is answered, if its request came whole.
 //! - After an answer the rest of the request is read and dropped, for a second at most: a socket that is closed with
 //!   bytes unread resets the connection, and the answer may be lost.
@@ -30,8 +30,8 @@ mod marking;
 mod scanning;
 mod stage;
 
-pub use answers::{json_answer, refused_answer, words_answer};
-pub use asking::{Asking, EditBody, Pressed};
+pub use answers::{json_answer, refused_answer, trouble_answer};
+pub use asking::{Asking, Pressed};
 pub use connection::{Answer, Connection, MAX_INPUT, PATIENCE};
 pub use marking::CurtainMove;
 pub use scanning::{Place, Scan};

@@ -2,4 +2,3 @@ pub mod Edits
 pub mod Ends
 pub mod Orders
 pub mod Pages
-pub mod Tables

@@ -9,6 +9,5 @@ pub use reading::line;
 pub use reading::pressing::Pressed;
 pub use reading::rehearsing::{Flags, Rehearsal, with_flags};
 pub use reading::reporting::{End, Form, Report};
-pub use reading::tabling::Tabling;
 pub use reading::web::{LockWord, PageUse, Web};
 pub use reading::words::{Environment, Line, Watched};

@@ -13,7 +13,6 @@ pub mod pressing;
 pub mod rehearsing;
 pub mod reporting;
 mod sheet;
-pub mod tabling;
 pub mod web;
 pub mod words;
 
@@ -31,7 +30,6 @@ use rehearsing::rehearsal_in;
 use reporting::{asker_in, asker_said, mark_in, report_in};
 use sheet::{check_in, export_in, new_in, sheet_in};
 use std::alloc::Global;
-use tabling::table_in;
 use web::web_in;
 use words::{Environment, Line, Watched};
 
@@ -221,7 +219,6 @@ fn file_line_in(
         "new" => Some(new_in(alloc, found)),
         "edit" => Some(edit_in(alloc, found)),
         "sheet" => Some(sheet_in(alloc, found)),
-        "table" => Some(table_in(alloc, found)),
         "board" => Some(board_in(alloc, found)),
         "web" => Some(web_in(alloc, found).map(Line::Web)),
         "buttons" => Some(buttons_in(alloc, found)),

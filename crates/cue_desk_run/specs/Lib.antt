@@ -1,2 +1,12 @@
+pub mod Alarming
+pub mod Asking
+pub mod Devices
+pub mod Failing
+pub mod Hearing
+pub mod Laws
+pub mod Leaving
+pub mod Looks
+pub mod Readings
+pub mod Shelves
 pub mod Sockets
-pub mod Sources
+pub mod Working

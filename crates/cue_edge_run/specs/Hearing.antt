@@ -1,5 +1,6 @@
 -- What a try at the sockets brings, and when it is time.
-use Rattle.std.specs.Prelude.{ℕ, Bool, false, ◌||◌, ◌-◌, nat_lt, nat_le, Option, None, Some, Ok}
+use Rattle.std.specs.Prelude.{◌≡◌, ℕ, Bool, false, ◌||◌, ◌-◌, nat_lt, nat_le, Option, None, Some, Ok}
+use Rattle.cue_machine.specs.declared.ears.Input.{Input}
 use Rattle.cue_machine.specs.declared.ears.Turn.{Turn}
 use Rattle.cue_machine.specs.declared.ears.Turn.TheVariants as turn
 use Rattle.cue_machine.specs.declared.ears.Input.TheVariants as input

@@ -1,5 +1,5 @@
 -- Why a socket gave no datagram.
-use Rattle.std.specs.Prelude.{Bool, true, false, Option, Some, None}
+use Rattle.std.specs.Prelude.{Option, Some, None}
 use Rattle.std.specs.declared.io.ErrorKind.{ErrorKind}
 use Rattle.std.specs.declared.io.ErrorKind.TheVariants.{WouldBlock, TimedOut, ConnectionRefused, Interrupted}
 use Rattle.cue_edge_run.specs.declared.missed.Missed.{Missed}
@@ -12,9 +12,3 @@ why_missed TimedOut = Some Nothing
 why_missed ConnectionRefused = Some Refused
 why_missed Interrupted = Some Again
 why_missed _ = None
-
--- nobody listens there
-abbrev pub is_refused : Missed → Bool
-is_refused Refused = true
-is_refused Nothing = false
-is_refused Again = false

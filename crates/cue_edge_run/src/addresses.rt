@@ -1,8 +1,5 @@
 //! Addresses of this machine's sockets, and of who is at the other end.
-ghost use Rattle.std.specs.Net.Addr.{is_ipv6};
-ghost use Rattle.std.specs.Net.Socket.{socket_ip};
-ghost use Rattle.std.specs.Prelude.{◌≡◌, ◌+◌, IfNone, IfOk, IfSome, IsTrue, OnOk, length, vec_len};
-ghost use Rattle.cue_edge_run.specs.Sockets.{IsAt};
+ghost use Rattle.std.specs.Prelude.{◌≡◌, ◌+◌, IfOk, OnOk, length, vec_len};
 
 use cue_machine::Address;
 use mio::net::UdpSocket;
@@ -17,24 +14,18 @@ pub struct BindFault {
 }
 
 /// The address as a socket has it.
-#[tactic(auto, using(crate::proofs::SocketLemmas::is_at))]
-pub fn socket_address(address: Address) -> SocketAddr
-    ensures { IsAt address result }
-{
+pub fn socket_address(address: Address) -> SocketAddr {
     SocketAddr::new(IpAddr::V4(Ipv4Addr::from_bits(address.host)), address.port)
 }
 
 /// Who is at the other end; none of IPv6: no socket here has such a peer.
-pub fn address_of(peer: SocketAddr) -> Option<Address>
-    ensures known { IfSome result (λ address. IsAt address peer) }
-    ensures none { IfNone result (IsTrue (is_ipv6 (socket_ip peer))) }
-{
-    match peer.ip() {
-        IpAddr::V4(ip) => Some(Address {
-            host: ip.to_bits(),
+pub fn address_of(peer: SocketAddr) -> Option<Address> {
+    match peer {
+        SocketAddr::V4(peer) => Some(Address {
+            host: peer.ip().to_bits(),
             port: peer.port(),
         }),
-        IpAddr::V6(_) => None,
+        SocketAddr::V6(_) => None,
     }
 }
 

@@ -1,9 +1,6 @@
 //! Ears over sockets and the clock: all sockets are waited at in one loop.
-ghost use Rattle.std.specs.Prelude.{◌≡◌, None, IfOk, OnOk, length};
+ghost use Rattle.std.specs.Prelude.{◌≡◌, None, IfOk, length};
 ghost use Rattle.cue_edge_run.specs.Hearing.{IsTryWithin, is_reached, is_time, patience, woken};
-ghost use Rattle.cue_edge_run.specs.Missing.{is_refused};
-ghost use Rattle.cue_edge_run.specs.Moments.{IsSteady};
-ghost use Rattle.cue_edge_run.specs.declared.moments.Moments.TheVariants.{Wall};
 
 use crate::addresses::address_of;
 use crate::missed::{Missed, why_missed};
@@ -12,7 +9,6 @@ use crate::ready::Ready;
 use cue_machine::{Ears, EarsFault, Input, Turn};
 use mio::net::UdpSocket;
 use mio::{Events, Interest, Poll, Token};
-use std::alloc::AllocError;
 use std::io;
 use std::net::Net;
 use std::time::{Clock, Duration};
@@ -92,9 +88,7 @@ impl<'a, C: Clock> NetEars<'a, C> {
         clock: &'a C,
         sockets: &'a mut [UdpSocket],
         moments: Moments,
-    ) -> io::Result<NetEars<'a, C>>
-        ensures { IfOk result (λ ears. ears.moments ≡ moments) }
-    {
+    ) -> io::Result<NetEars<'a, C>> {
         let alloc = rt.alloc();
         let last = moments.now(clock)?;
         let poll = Poll::new(rt)?;
@@ -117,9 +111,7 @@ impl<'a, C: Clock> NetEars<'a, C> {
         rt: &R,
         clock: &'a C,
         sockets: &'a mut [UdpSocket],
-    ) -> io::Result<NetEars<'a, C>>
-        ensures { IfOk result (λ ears. ears.moments ≡ Wall) }
-    {
+    ) -> io::Result<NetEars<'a, C>> {
         NetEars::at(rt, clock, sockets, Moments::Wall)
     }
 
@@ -128,17 +120,13 @@ impl<'a, C: Clock> NetEars<'a, C> {
         rt: &R,
         clock: &'a C,
         sockets: &'a mut [UdpSocket],
-    ) -> io::Result<NetEars<'a, C>>
-        ensures { IfOk result (λ ears. IsSteady ears.moments) }
-    {
+    ) -> io::Result<NetEars<'a, C>> {
         let moments = Moments::steady(clock)?;
         NetEars::at(rt, clock, sockets, moments)
     }
 
     /// The sockets that it waits at.
-    pub fn sockets(&self) -> &'a [UdpSocket]
-        ensures { result ≡ self.now.sockets }
-    {
+    pub fn sockets(&self) -> &'a [UdpSocket] {
         self.sockets
     }
 
@@ -150,11 +138,7 @@ impl<'a, C: Clock> NetEars<'a, C> {
     }
 
     // Waits until a socket has something to read or the moment comes, or looks which ones have if some wait already.
-    fn look(&mut self, until: Option<u64>, now: u64) -> io::Result<()>
-        ensures left { OnOk result (self.new.left ≡ 64) }
-        ensures moments { self.new.moments ≡ self.old.moments }
-        ensures last { self.new.last ≡ self.old.last }
-    {
+    fn look(&mut self, until: Option<u64>, now: u64) -> io::Result<()> {
         let wait = if self.ready.is_empty() {
             patience(until, now)
         } else {
@@ -186,10 +170,7 @@ impl<'a, C: Clock> NetEars<'a, C> {
                 Ok(Some(Turn::Comes { now, input, n }))
             }
             Err(error) => {
-                let Some(missed) = why_missed(error.kind()) else {
-                    return Err(error);
-                };
-                if self.is_refused(place, missed)? {
+                if self.is_refused(place, error)? {
                     let input = Input::Refused { at: place };
                     return Ok(Some(Turn::Comes { now, input, n: 0 }));
                 }
@@ -198,11 +179,12 @@ impl<'a, C: Clock> NetEars<'a, C> {
         }
     }
 
-    // Whether nobody listens where the socket of this place sent to, which gave no datagram for this reason. If another
-    // call may give one, it stays in turn.
-    fn is_refused(&mut self, place: usize, missed: Missed) -> Result<bool, AllocError>
-        ensures { IfOk result (λ is. is ≡ is_refused missed) }
-    {
+    // Whether nobody listens where the socket of this place sent to, which gave no datagram. If another call may give
+    // one, it stays in turn.
+    fn is_refused(&mut self, place: usize, error: io::Error) -> io::Result<bool> {
+        let Some(missed) = why_missed(error.kind()) else {
+            return Err(error);
+        };
         if missed == Missed::Nothing {
             return Ok(false);
         }

@@ -24,8 +24,6 @@ mod sending;
 
 pub use addresses::{BindFault, bind, connected};
 pub use ears::NetEars;
-pub use moments::Moments;
 pub use mounts::is_in_memory;
 pub use post::NetPost;
-pub use replacing::Replaced;
 pub use sending::SocketPost;

@@ -1,9 +1,6 @@
 //! Where the moments of ears come from.
-ghost use Rattle.std.specs.Prelude.{◌≡◌, IfOk};
-ghost use Rattle.cue_edge_run.specs.Moments.{IsSteady, millis};
-
 use std::io::{self, ErrorKind};
-use std::time::{Clock, Duration, Instant};
+use std::time::{Clock, Instant};
 
 /// Where moments come from, in milliseconds.
 #[derive(Drop)]
@@ -14,21 +11,9 @@ pub enum Moments {
     Steady(Instant),
 }
 
-// A time in whole milliseconds.
-fn millis_of(since: Duration) -> io::Result<u64>
-    ensures { IfOk result (λ now. now ≡ millis since) }
-{
-    match u64::try_from(since.as_millis()) {
-        Ok(now) => Ok(now),
-        Err(_) => Err(io::Error::from(ErrorKind::InvalidData)),
-    }
-}
-
 impl Moments {
     /// Those since now.
-    pub fn steady<C: Clock>(clock: &C) -> io::Result<Moments>
-        ensures { IfOk result IsSteady }
-    {
+    pub fn steady<C: Clock>(clock: &C) -> io::Result<Moments> {
         Ok(Moments::Steady(Instant::now(clock)?))
     }
 
@@ -38,6 +23,9 @@ impl Moments {
             Moments::Wall => clock.since_1970()?,
             Moments::Steady(start) => start.elapsed(clock)?,
         };
-        millis_of(since)
+        match u64::try_from(since.as_millis()) {
+            Ok(now) => Ok(now),
+            Err(_) => Err(io::Error::from(ErrorKind::InvalidData)),
+        }
     }
 }

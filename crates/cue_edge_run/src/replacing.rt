@@ -1,6 +1,4 @@
 //! A file that is replaced whole.
-ghost use Rattle.std.specs.Prelude.{◌≡◌, ◌++◌, IfOk, codes, string_bytes};
-
 use std::alloc::{AllocError, Global};
 use std::fs::{self, File, Files, OpenOptions};
 use std::io::{self, ErrorKind, Write};
@@ -32,10 +30,7 @@ fn make_anew<R: Files<File = File> + AllocGlobal>(
 
 impl<'a> Replaced<'a> {
     /// The file of this path.
-    pub fn new(alloc: Global, path: &'a str) -> Result<Replaced<'a>, AllocError>
-        ensures path { IfOk result (λ file. file.path.now ≡ path.now) }
-        ensures beside { IfOk result (λ file. string_bytes file.beside ≡ path.now ++ codes ".new") }
-    {
+    pub fn new(alloc: Global, path: &'a str) -> Result<Replaced<'a>, AllocError> {
         let beside = format!(in alloc; "{path}.new")?;
         Ok(Replaced { path, beside })
     }

@@ -1,5 +1,5 @@
 //! A datagram that goes out, and a post for no more than that.
-ghost use Rattle.std.specs.Prelude.{◌≡◌, ◌<◌, None, OnOk, length};
+ghost use Rattle.std.specs.Prelude.{None};
 
 use crate::addresses::socket_address;
 use cue_machine::{Address, Output, Post, PostFault};
@@ -7,9 +7,7 @@ use mio::net::UdpSocket;
 use std::io::{self, ErrorKind};
 
 /// Sends a datagram whole, by the socket of this place.
-pub fn send_by(sockets: &[UdpSocket], by: usize, to: Address, bytes: &[u8]) -> io::Result<()>
-    ensures { OnOk result (by < length sockets.now) }
-{
+pub fn send_by(sockets: &[UdpSocket], by: usize, to: Address, bytes: &[u8]) -> io::Result<()> {
     let Some(socket) = sockets.get(by) else {
         return Err(io::Error::from(ErrorKind::NotFound));
     };
@@ -30,9 +28,7 @@ pub struct SocketPost<'a> {
 
 impl<'a> SocketPost<'a> {
     /// By these sockets.
-    pub fn new(sockets: &'a [UdpSocket]) -> SocketPost<'a>
-        ensures { result.fault ≡ None }
-    {
+    pub fn new(sockets: &'a [UdpSocket]) -> SocketPost<'a> {
         SocketPost {
             sockets,
             fault: None,
@@ -40,10 +36,7 @@ impl<'a> SocketPost<'a> {
     }
 
     /// Why what was lost last did not go out, once.
-    pub fn take_fault(&mut self) -> Option<io::Error>
-        ensures fault { result ≡ self.old.fault }
-        ensures once { self.new.fault ≡ None }
-    {
+    pub fn take_fault(&mut self) -> Option<io::Error> {
         self.fault.take()
     }
 }

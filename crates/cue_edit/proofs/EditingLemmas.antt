@@ -1,6 +1,6 @@
 -- What each change keeps of the cues.
 use Rattle.std.proofs.Common.{◌≡◌, ◌∙◌, ℕ, ◌+◌, suc, Bool, true, false, if◌then◌else◌, List, [], ◌∷◌, length, map}
-use Rattle.std.proofs.Common.{Option, Some, refl, ap, arith}
+use Rattle.std.proofs.Common.{Option, None, Some, refl, ap, sym, arith}
 use Rattle.std.specs.Prelude.{find, option_map, IsTrue}
 use Rattle.std.specs.Option.{option_map_or}
 use Rattle.cue_show.proofs.TextLemmas.{same_text-true}

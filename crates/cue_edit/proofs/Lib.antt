@@ -1,3 +1,1 @@
 mod EditingLemmas
-mod EditorLemmas
-mod HistoryLemmas

@@ -1,5 +1,5 @@
 -- What comes of an edit.
-use Rattle.std.specs.Prelude.{◌≡◌, Bool, true, false, map, Some, Result, Ok, Err, ⊤, string_bytes}
+use Rattle.std.specs.Prelude.{◌≡◌, Bool, true, false, map, Some, Result, Ok, Err, ⊤, string_bytes, List, []}
 use Rattle.cue_show_file.specs.declared.file.ShowFile.{ShowFile}
 use Rattle.cue_show_file.specs.Reading.{said_of}
 use Rattle.cue_show_file.specs.Said.{text_said}

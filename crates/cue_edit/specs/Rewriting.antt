@@ -1,5 +1,5 @@
 -- How a text is written anew: one piece of it is replaced, or carried to another place, and all others stay.
-use Rattle.std.specs.Prelude.{ℕ, ◌==◌, Bool, true, false, if◌then◌else◌, List, [], ◌∷◌, ◌++◌, take, drop}
+use Rattle.std.specs.Prelude.{ℕ, ◌-◌, ◌==◌, Bool, true, false, if◌then◌else◌, List, [], ◌∷◌, ◌++◌, take, drop, nat_le}
 use Rattle.std.specs.Prelude.{string_bytes}
 use Rattle.cue_edit.specs.declared.edit.Change.{Change}
 use Rattle.cue_edit.specs.declared.edit.Change.TheVariants.{Sign, Before, Copy}

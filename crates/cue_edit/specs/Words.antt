@@ -1,5 +1,5 @@
 -- What is said of an edit.
-use Rattle.std.specs.Prelude.{ℕ, Bool, true, false, List, [], ◌++◌, codes, Option, None, Some}
+use Rattle.std.specs.Prelude.{ℕ, List, [], ◌++◌, codes, Option, None, Some}
 use Rattle.cue_edit.specs.declared.edit.Change.{Change}
 use Rattle.cue_edit.specs.declared.edit.Change.TheVariants as change
 use Rattle.cue_edit.specs.declared.edit.Edit.{Edit}
@@ -7,10 +7,6 @@ use Rattle.cue_edit.specs.declared.edit.EditFault.{EditFault}
 use Rattle.cue_edit.specs.declared.edit.EditFault.TheVariants as fault
 use Rattle.cue_edit.specs.declared.edit.Sign.{Sign}
 use Rattle.cue_edit.specs.declared.edit.Sign.TheVariants as sign
-use Rattle.cue_edit.specs.declared.editor.EditRefusal.{EditRefusal}
-use Rattle.cue_edit.specs.declared.editor.EditRefusal.TheVariants as refusal
-use Rattle.cue_edit.specs.declared.wish.Wish.{Wish}
-use Rattle.cue_edit.specs.declared.wish.Wish.TheVariants as wish
 
 -- ---- what was done
 
@@ -64,38 +60,3 @@ refused_said e (fault.Mistakes found) = codes "the changed file would have mista
 refused_said e fault.Form =
     codes "cue "
     ++ (e.cue ++ codes " has no header of its own, or a value of several lines: change it with an editor")
-
--- ---- what a page tells of a wish
-
--- what is to be done once the controller is to be told of it
-abbrev pub load_said : Bool → List ℕ
-load_said true = codes "; load the file with --replace"
-load_said false = []
-
-abbrev pub wish_said : Wish → List ℕ
-wish_said (wish.Edit e) = done_said e
-wish_said wish.Undo = codes "the last edit is taken back"
-wish_said wish.Redo = codes "the edit is made again"
-
--- what a wish has done
-abbrev pub made_said : Wish → Bool → List ℕ
-made_said w is_told = wish_said w ++ load_said is_told
-
--- the text that a step gives is no show file
-abbrev pub step_fault_said : List ℕ
-step_fault_said = codes "the other text has mistakes, and the file stays as it is"
-
-abbrev pub fault_said : Wish → EditFault → List ℕ
-fault_said (wish.Edit e) f = refused_said e f
-fault_said wish.Undo f = step_fault_said
-fault_said wish.Redo f = step_fault_said
-
--- why a wish is refused
-abbrev pub unmade_said : Wish → EditRefusal → List ℕ
-unmade_said w refusal.NoFile = codes "this page has no show file: start it with one"
-unmade_said w refusal.Live = codes "a cue is live: the show file stays as it is"
-unmade_said w refusal.Unreadable = codes "the show file cannot be read"
-unmade_said w refusal.Changed = codes "the show file changed: look again"
-unmade_said w refusal.NoUndo = codes "no edit of this page is left to take back"
-unmade_said w refusal.NoRedo = codes "no edit of this page is left to make again"
-unmade_said w (refusal.Fault f) = fault_said w f

@@ -4,7 +4,6 @@ ghost use Rattle.std.specs.Prelude.{◌≡◌, ◌∷◌, IsTrue, find, map, opt
 ghost use Rattle.cue_show.specs.Number.{same_text};
 ghost use Rattle.cue_show_file.specs.declared.file.CueEntry.{CueEntry};
 ghost use Rattle.cue_edit.specs.Editing as editing;
-ghost use Rattle.cue_edit.specs.Laws as laws;
 
 use crate::edit::{Change, Edit, Sign};
 use cue_show::{CueNo, Part};
@@ -260,27 +259,6 @@ fn are_same(old: &[CueEntry], new: &[CueEntry]) -> bool
         [first, rest @ ..] => match new {
             [] => false,
             [other, others @ ..] => is_same(first, other) && are_same(rest, others),
-        },
-    }
-}
-
-// Whether the controller is told the same of two cues.
-fn is_told_alike(old: &CueEntry, new: &CueEntry) -> bool
-    ensures { IsTrue result → laws.told (editing.seen new.now) ≡ laws.told (editing.seen old.now) }
-{
-    is_same_number(new.number, old.number)
-        && are_same_parts(new.parts.as_slice(), old.parts.as_slice())
-}
-
-/// Whether the controller is told the same of these cues, in the same order.
-pub(crate) fn are_told_alike(old: &[CueEntry], new: &[CueEntry]) -> bool
-    ensures { IsTrue result → map laws.told (map editing.seen new.now) ≡ map laws.told (map editing.seen old.now) }
-{
-    match old {
-        [] => new.is_empty(),
-        [first, rest @ ..] => match new {
-            [] => false,
-            [other, others @ ..] => is_told_alike(first, other) && are_told_alike(rest, others),
         },
     }
 }

@@ -9,10 +9,6 @@
 //! number. What a change makes of the cues is `specs/Editing.antt`; how the text is rewritten,
 //! `specs/Rewriting.antt`.
 //!
-//! An `Editor` is the show file that a page shows, with the texts before it and those that were taken back
-//! (`specs/History.antt`); `judge_edit` says what a wish of the page makes of it, or why the file stays as it is
-//! (`specs/Editor.antt`).
-//!
 //! Why it is so:
 //! - One piece of the text is written anew, or carried to another place, and all others stay: so comments, blank lines
 //!   and the order of the keys are those of the person who wrote the file.
@@ -27,20 +23,12 @@
 mod comparing;
 mod edit;
 mod editing;
-mod editor;
 mod finding;
-mod history;
 pub mod laws;
 mod rewriting;
-mod telling;
-mod wish;
 mod words;
 
 pub use edit::{Change, Edit, EditFault, Sign};
 pub use editing::{Edited, apply};
-pub use editor::{EditRefusal, Editor, NewText, file_in, judge_edit};
-pub use history::{History, MAX_STEPS};
 pub use rewriting::Rewrite;
-pub use telling::{made_words, unmade_words};
-pub use wish::{AskedEdit, Wish};
 pub use words::{done_words, refused_words};

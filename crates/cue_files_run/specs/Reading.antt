@@ -4,10 +4,9 @@ use Rattle.std.specs.Io.KnownBytes.{Appends}
 use Rattle.cue_desk.specs.declared.ending.Ending.{Ending}
 use Rattle.cue_desk.specs.declared.ending.Ending.TheVariants as ending
 use Rattle.cue_findings.specs.Checking.{IsFoundIn, ending_of}
-use Rattle.cue_findings.specs.Judging.{HasMistake, IsSaidBy}
+use Rattle.cue_findings.specs.Judging.{HasMistake}
 use Rattle.cue_findings.specs.Words.{sound_words}
 use Rattle.cue_findings.specs.declared.checking.Found.{Found}
-use Rattle.cue_findings.specs.declared.judging.Sound.{Sound}
 use Rattle.cue_show.specs.Show.{ShowLists}
 use Rattle.cue_show_file.specs.Written.{IsFileOf, file_text}
 use Rattle.cue_show_file.specs.declared.file.ShowFile.{ShowFile}
@@ -28,29 +27,10 @@ pub record PrintsSound (text : List ℕ) (before after : Option (List ℕ)) : Ty
 -- memory or the output failed, or what was found ends it so
 abbrev pub EndsAsFound : List ℕ → Ending → Type 0
 EndsAsFound text e =
-    (e ≡ ending.Failed)
-    ⊎ ((e ≡ ending.Unwritten) ⊎ ((found : Found) × IsFoundIn text found × (ending_of found ≡ Some e)))
+    (e ≡ ending.Failed) ⊎ ((e ≡ ending.Unwritten) ⊎ ((found : Found) × IsFoundIn text found × (ending_of found ≡ Some e)))
 
 -- the show file of a show is printed
 pub record PrintsShow (show : ShowLists) (before after : Option (List ℕ)) : Type 0 where
   pub file : ShowFile
   pub of : IsFileOf show file
   pub printed : Appends before after (file_text file)
-
--- ---- whatever a file has
-
--- it is said by some text: no file with a mistake gives it
-abbrev pub IsSound : Sound → Type 0
-IsSound sound = (text : List ℕ) × IsSaidBy text sound
-
--- it is the file of something sound
-abbrev pub IsRead : ShowFile → Type 0
-IsRead file = (sound : Sound) × IsSound sound × (sound.file ≡ file)
-
--- the line of some text of which nothing has to be mended is printed
-abbrev pub PrintsSomeSound : (before after : Option (List ℕ)) → Type 0
-PrintsSomeSound before after = (text : List ℕ) × PrintsSound text before after
-
--- the show file of some show is printed
-abbrev pub PrintsSomeShow : (before after : Option (List ℕ)) → Type 0
-PrintsSomeShow before after = (show : ShowLists) × PrintsShow show before after

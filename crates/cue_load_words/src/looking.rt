@@ -62,8 +62,8 @@ fn look_at(status: Status, state: &State) -> Result<Look, AllocError>
     }
 }
 
-/// What a look came to at a store with this state, if the controller said this of the one that it serves. If it is to
-/// be at rest, only a store of which nothing is live will do.
+/// What a look came to at a store with this state, if the controller said this of the one that it serves. If it is to be
+/// at rest, only a store of which nothing is live will do.
 pub fn look_of(
     alloc: Global,
     is_to_rest: bool,

@@ -1,12 +1,10 @@
 pub mod Alarms
 pub mod Buttons
 pub mod Ends
-pub mod Inputs
 pub mod Live
 pub mod Marks
 pub mod Network
 pub mod Page
 pub mod Said
 pub mod Stack
-pub mod Steps
 pub mod Whereabouts

@@ -11,13 +11,11 @@ use Rattle.cue_request.specs.Lit.{button_data}
 use Rattle.cue_page.specs.Alarms.{alarm_data}
 use Rattle.cue_page.specs.Buttons.{is_move, is_other}
 use Rattle.cue_page.specs.Ends.{told_data, told_or_null}
-use Rattle.cue_page.specs.Inputs.{inputs_data}
 use Rattle.cue_page.specs.Live.{attempt_data}
 use Rattle.cue_page.specs.Marks.{marks_data}
 use Rattle.cue_page.specs.Network.{contact_data}
 use Rattle.cue_page.specs.Said.{said_data, unsent_data}
 use Rattle.cue_page.specs.Stack.{next_data, number_data}
-use Rattle.cue_page.specs.Steps.{edits_data}
 use Rattle.cue_page.specs.Whereabouts.{whereabouts_data}
 use Rattle.cue_page.specs.declared.board.FirstHalf.{FirstHalf}
 use Rattle.cue_page.specs.declared.board.Manner.{Manner}
@@ -120,16 +118,14 @@ file_line_data m = elim m.told [ None ↦ null | Some told ↦ string told.now ]
 
 -- what the page gets: the view, what its numbers are called, and in what manner it is shown: in which run of the desk
 -- it was made, whether some presses need a word, whether none is taken, whether a rehearsal plays the devices, when the
--- curtain moved, what is told of the show file, what stands of its edits, and how the programs are that hear buttons
+-- curtain moved, and what is told of the show file
 abbrev pub page_data : Data → Manner → Data → Data
 page_data called m facts =
-    object (member (codes "edits") (edits_data m.steps)
-    (member (codes "inputs") (inputs_data m.inputs.now)
-    (member (codes "locked") (boolean m.is_locked)
+    object (member (codes "locked") (boolean m.is_locked)
     (member (codes "marks") (marks_data (option_map (λ marks. marks.now) m.marks))
     (member (codes "names") called
     (member (codes "readonly") (boolean m.is_read_only)
     (member (codes "rehearsed") (boolean m.is_rehearsed)
     (member (codes "run") (string m.run.now)
     (member (codes "told") (file_line_data m)
-    (member (codes "view") facts no_members))))))))))
+    (member (codes "view") facts no_members))))))))

@@ -9,13 +9,11 @@ mod alarms;
 mod buttons;
 mod called;
 mod ends;
-mod inputs;
 mod live;
 mod marks;
 mod network;
 mod said;
 mod stack;
-mod steps;
 mod whereabouts;
 
 use alarms::alarms_value;
@@ -26,7 +24,6 @@ use cue_show::CueNo;
 use cue_show_file::{Group, cue_text};
 use cue_view::view::View;
 use ends::{past_value, told_or_null};
-use inputs::inputs_value;
 use live::live_value;
 pub use marks::CurtainMark;
 use marks::marks_value;
@@ -35,8 +32,6 @@ use said::{said_value, unsent_value};
 use serde_json::{Map, Value, json, put};
 use stack::{next_value, stack_value};
 use std::alloc::{AllocError, Global};
-pub use steps::EditSteps;
-use steps::edits_value;
 pub use whereabouts::Standing;
 use whereabouts::whereabouts_value;
 
@@ -267,12 +262,8 @@ pub struct Manner<'a> {
     pub told: Option<&'a str>,
     /// Whether a rehearsal plays the devices of the show file.
     pub is_rehearsed: bool,
-    /// A line for each program that hears buttons beside the show file: how its input is.
-    pub inputs: &'a [String],
     /// When the curtain went up and down, in order; none if the page keeps no marks.
     pub marks: Option<&'a [CurtainMark]>,
-    /// What stands of the edits of the show file; none if there is no show file.
-    pub steps: Option<EditSteps>,
 }
 
 // The line about the show file; null if there is none.
@@ -298,12 +289,8 @@ fn page_value(
         file_line_value(alloc, manner)?,
         marks_value(alloc, manner.marks)?,
     );
-    let (edits, inputs) = (
-        edits_value(alloc, manner.steps)?,
-        inputs_value(alloc, manner.inputs)?,
-    );
     json!(in alloc; {
-        "edits": edits, "inputs": inputs, "locked": manner.is_locked, "marks": marks, "names": called, "readonly": manner.is_read_only,
+        "locked": manner.is_locked, "marks": marks, "names": called, "readonly": manner.is_read_only,
         "rehearsed": manner.is_rehearsed, "run": manner.run, "told": told, "view": facts
     })
 }

@@ -38,9 +38,7 @@ hears_message byte v m p mid p_then r hears keeps set hand takes gives =
       hears = hears;
       keeps = λ past is. rw (ap (λ (x : Player). x.parser) takes) (keeps past is);
       setting = ap (λ (x : Player). x.setting) takes ∙ set;
-      hand =
-          ap (λ (x : Player). x.hand) takes ∙ ap (λ s. hand_of s mid.hand m) set
-          ∙ ap (λ h. hand_of p.setting h m) hand;
+      hand = ap (λ (x : Player). x.hand) takes ∙ ap (λ s. hand_of s mid.hand m) set ∙ ap (λ h. hand_of p.setting h m) hand;
       gives = gives-at r (strike_of (taken_of mid.setting mid.hand v m)) (strike_of (taken_of p.setting p.hand v m))
           (ap (λ s. strike_of (taken_of s mid.hand v m)) set ∙ ap (λ h. strike_of (taken_of p.setting h v m)) hand)
           gives;

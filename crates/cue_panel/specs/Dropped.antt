@@ -1,6 +1,5 @@
 -- What was dropped, and when that is told.
-use Rattle.std.specs.Prelude.{ℕ, ◌+◌, ◌-◌, ◌^◌, Bool, true, ◌&&◌, if◌then◌else◌, Option, None, Some, min}
-use Rattle.std.specs.Prelude.{nat_le, nat_lt}
+use Rattle.std.specs.Prelude.{ℕ, ◌+◌, ◌-◌, ◌^◌, Bool, true, ◌&&◌, if◌then◌else◌, Option, None, Some, min, nat_le, nat_lt}
 use Rattle.cue_panel.specs.declared.dropped.Dropped.{Dropped}
 use Rattle.cue_panel.specs.declared.dropped.TheConstants.{FLOOD_MS}
 use Rattle.cue_panel.specs.declared.line.Line.{Line}

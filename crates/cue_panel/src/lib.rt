@@ -3,10 +3,9 @@
 //!
 //! `Panel::hear` takes a byte with the view that is shown: what the byte finishes is a message, and a message presses
 //! once at most (`specs/Taking.antt`). What came of a press it is told (`Panel::came`), and it looks at each view for
-//! what became of the last two (`Panel::look`). Each line is a value, `Line`, whose text is stated
-//! (`specs/Lines.antt`). `Wish` is a press by a word: it is tried until it is sent, and then waited for
-//! (`specs/Wishing.antt`). `Listening` says when a device is opened and looked at, and what is told of it
-//! (`specs/Listening.antt`).
+//! what became of the last two (`Panel::look`). Each line is a value, `Line`, whose text is stated (`specs/Lines.antt`).
+//! `Wish` is a press by a word: it is tried until it is sent, and then waited for (`specs/Wishing.antt`). `Listening`
+//! says when a device is opened and looked at, and what is told of it (`specs/Listening.antt`).
 //!
 //! The laws, over all lists of what happens (`laws`): each press comes of one message that was heard, by the hand that
 //! all before has made, and of the view that was shown then; no message presses twice; what waited in the device

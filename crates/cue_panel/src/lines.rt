@@ -288,8 +288,7 @@ impl<'a> Lines<'a> {
 
     // The text of a line, while this view is shown.
     fn text_of(&self, line: &Line, view: &View) -> Result<String, AllocError>
-        ensures { IfOk result (λ text.
-            IsLine self.now.together.now self.now.port view.now line.now (string_bytes text)) }
+        ensures { IfOk result (λ text. IsLine self.now.together.now self.now.port view.now line.now (string_bytes text)) }
     {
         let alloc = self.alloc;
         match line {

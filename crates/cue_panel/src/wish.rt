@@ -1,5 +1,5 @@
-//! One press by a word, turn by turn: what is wished is pressed once it is lit, and then it is waited for what became
-//! of it.
+//! One press by a word, turn by turn: what is wished is pressed once it is lit, and then it is waited for what became of
+//! it.
 ghost use Rattle.std.specs.Prelude.{◌≡◌};
 ghost use Rattle.cue_panel.specs.Wishing as wishing;
 

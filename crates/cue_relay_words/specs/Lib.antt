@@ -1,4 +1,3 @@
 pub mod Laws
 pub mod Planning
-pub mod Saying
 pub mod Words

@@ -1,4 +1,4 @@
-//! What the command `relay` plans and says, apart from what its machine does. Nothing here opens a socket.
+//! What the command `relay` plans and says, apart from what its machine does. Nothing here prints or opens a socket.
 //!
 //!     let plan = plan_of(alloc, said, &file)?;
 //!
@@ -15,9 +15,7 @@
 
 pub mod laws;
 mod planning;
-mod saying;
 mod words;
 
 pub use planning::{Lack, Plan, PlanFault, plan_of};
-pub use saying::{planned, print_begun};
 pub use words::{Begun, DiskWords, LackWords, ended_words};

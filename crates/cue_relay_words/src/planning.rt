@@ -1,9 +1,7 @@
 //! Which devices are relayed, and what a show file lacks for it.
 ghost use Rattle.std.specs.Prelude.{◌≡◌, ◌⊎◌, IfErr, IfOk};
 ghost use Rattle.cue_relay_words.specs.Planning as planning;
-ghost use Rattle.cue_relay_words.specs.Saying.{begun_of};
 
-use crate::words::Begun;
 use cue_desk::ports::controller_port;
 use cue_relay::{Address, Route};
 use cue_show_file::{ShowFile, routes};
@@ -50,19 +48,6 @@ pub struct Plan {
     pub stage: u32,
     /// The devices that are relayed, in the order of the show file.
     pub routes: Vec<Route>,
-}
-
-impl Plan {
-    /// What the relay begins with, to be said.
-    pub fn begun(&self) -> Begun
-        ensures { result ≡ begun_of self.now }
-    {
-        Begun {
-            controller: self.controller,
-            stage: self.stage,
-            count: self.routes.len(),
-        }
-    }
 }
 
 // Whether one of these routes has the port.

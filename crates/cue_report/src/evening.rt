@@ -173,8 +173,6 @@ impl Evening {
         ensures marks { OnOk result (self.new.marks.items ≡
             within self.old.range self.old.ahead marks.now.list.items) }
         ensures unread { OnOk result (self.new.unread_marks ≡ marks.now.unread) }
-        ensures range { OnOk result (self.new.range ≡ self.old.range) }
-        ensures ahead { OnOk result (self.new.ahead ≡ self.old.ahead) }
         ensures attempts { picture self.new.attempts ≡ picture self.old.attempts }
     {
         self.marks = marks.within(self.alloc, self.range, self.ahead)?;

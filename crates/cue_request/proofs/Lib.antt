@@ -1,3 +1,1 @@
-mod EditLemmas
 pub mod LockLemmas
-mod RequestLemmas

@@ -1,6 +1,5 @@
 pub mod Answers
 pub mod Identity
-pub mod Edits
 pub mod Fields
 pub mod Laws
 pub mod Lit

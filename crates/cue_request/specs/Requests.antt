@@ -9,9 +9,6 @@ use Rattle.cue_request.specs.declared.identity.PageIdentity.{PageIdentity}
 use Rattle.cue_request.specs.declared.request.Head.{Head}
 use Rattle.cue_request.specs.declared.request.Asked.{Asked}
 use Rattle.cue_request.specs.declared.request.Asked.TheVariants as asked
-use Rattle.cue_request.specs.declared.request.Post.{Post}
-use Rattle.cue_request.specs.declared.request.Post.TheVariants as post
-use Rattle.cue_request.specs.declared.request.TheConstants.{MAX_BODY, MAX_EDIT}
 
 -- the value of the field of this name, if exactly one has it
 abbrev pub field : RequestHead → List ℕ → Option (List ℕ)
@@ -42,52 +39,36 @@ pub record IsAsked (identity : PageIdentity) (bytes : List ℕ) : Type 0 where
   pub single : has_many (codes "sec-fetch-site") (map name_and_value read.fields) ≡ false
   pub uncoded : has_field (codes "transfer-encoding") (map name_and_value read.fields) ≡ false
 
--- where a request with a body is sent
-abbrev pub target_of : Post → List ℕ
-target_of post.Command = codes "/command"
-target_of post.Edit = codes "/edit"
-
--- how many bytes its body may have
-abbrev pub most_of : Post → ℕ
-most_of post.Command = MAX_BODY
-most_of post.Edit = MAX_EDIT
-
--- what it asks, with a body of so many bytes
-abbrev pub asked_of : Post → ℕ → Asked
-asked_of post.Command size = asked.Command size
-asked_of post.Edit size = asked.Edit size
-
--- A head is that of a command or an edit: our own page asks it, whose buttons are pressed, and says that its body has
--- so many bytes.
-pub record IsPostHead (identity : PageIdentity) (head : Head) (to : Post) (size : ℕ) : Type 0 where
+-- A head is that of a command: our own page asks it, whose buttons are pressed, and says that its body has so many
+-- bytes.
+pub record IsCommandHead (identity : PageIdentity) (head : Head) (size : ℕ) : Type 0 where
   pub played : IsPlayed identity.purpose
   pub method : head.method.now ≡ codes "POST"
-  pub target : head.target.now ≡ target_of to
+  pub target : head.target.now ≡ codes "/command"
   pub sent : IsFromPage identity (option_map (λ v. v.now) head.host) (option_map (λ v. v.now) head.origin)
       (option_map (λ v. v.now) head.token)
-  pub short : size ≤ most_of to
+  pub short : size ≤ 256
   pub length : option_map (λ v. v.now) head.length ≡ Some (decimal size)
 
--- Bytes begin with a command or an edit: a head by the grammar of RFC 9112 that our own page sent, whose buttons are
--- pressed, this short body, which is as long as the head says, and what the head has of the word of the lock.
-pub record IsPosted (identity : PageIdentity) (to : Post) (bytes body : List ℕ) (word : Option (List ℕ)) : Type 0 where
+-- Bytes begin with a command: a head by the grammar of RFC 9112 that our own page sent, whose buttons are pressed, this
+-- short body, which is as long as the head says, and what the head has of the word of the lock.
+pub record IsCommand (identity : PageIdentity) (bytes body : List ℕ) (word : Option (List ℕ)) : Type 0 where
   pub played : IsPlayed identity.purpose
   pub read : RequestHead
   pub rest : List ℕ
   pub reads : ReadsRequest bytes read rest
   pub method : read.method ≡ codes "POST"
-  pub target : read.target ≡ target_of to
+  pub target : read.target ≡ codes "/command"
   pub sent : IsFromPage identity (field read (codes "host")) (field read (codes "origin"))
       (field read (codes "cuedesk-token"))
-  pub short : length body ≤ most_of to
+  pub short : length body ≤ 256
   pub whole : field read (codes "content-length") ≡ Some (decimal (length body))
   pub follows : body ≡ take (length body) rest
   pub says : word ≡ field read (codes "cuedesk-word")
 
--- if a command or an edit is wished, this holds of which it is, and of the length of its body
-abbrev pub OnBody : Asked → (Post → ℕ → Type 0) → Type 0
-OnBody (asked.Command size) holds = holds post.Command size
-OnBody (asked.Edit size) holds = holds post.Edit size
-OnBody asked.Page holds = ⊤
-OnBody asked.Board holds = ⊤
-OnBody asked.ShowFile holds = ⊤
+-- if a command is wished, this holds of the length of its body
+abbrev pub OnCommand : Asked → (ℕ → Type 0) → Type 0
+OnCommand (asked.Command size) holds = holds size
+OnCommand asked.Page holds = ⊤
+OnCommand asked.Board holds = ⊤
+OnCommand asked.ShowFile holds = ⊤

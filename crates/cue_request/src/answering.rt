@@ -18,8 +18,6 @@ pub enum Outcome {
     Done,
     /// The request is not carried out.
     Refused(Refusal),
-    /// It cannot be carried out as things are: the show file stays as it is.
-    Conflict,
     /// The store cannot be read, or nobody replied.
     Unavailable,
 }
@@ -43,8 +41,7 @@ pub fn status_of(outcome: Outcome) -> &'static str
         Outcome::Refused(Refusal::Unknown) => "404 Not Found",
         Outcome::Refused(Refusal::Method) => "405 Method Not Allowed",
         Outcome::Refused(Refusal::Late) => "408 Request Timeout",
-        Outcome::Conflict => "409 Conflict",
-        Outcome::Refused(Refusal::LongBody | Refusal::LongEdit) => "413 Content Too Large",
+        Outcome::Refused(Refusal::LongBody) => "413 Content Too Large",
         Outcome::Refused(Refusal::NoWord | Refusal::WrongWord) => "423 Locked",
         Outcome::Refused(Refusal::Closed) => "429 Too Many Requests",
         Outcome::Refused(Refusal::LongHead) => "431 Request Header Fields Too Large",
@@ -63,12 +60,9 @@ pub fn refusal_words(refusal: Refusal) -> &'static str
         Refusal::Method => "this cannot be asked so",
         Refusal::Late => "the request did not come whole within a second",
         Refusal::LongBody => "the body is longer than 256 bytes",
-        Refusal::LongEdit => "the edit is longer than 4096 bytes",
         Refusal::LongHead => "the head is longer than 8192 bytes",
         Refusal::OnlyShows => "this page only shows",
-        Refusal::NoWord => {
-            "the show is locked: a move of the place, a release and an edit need its word"
-        }
+        Refusal::NoWord => "the show is locked: a move of the place and a release need its word",
         Refusal::WrongWord => "the show is locked: this is not its word",
         Refusal::Closed => {
             "the show is locked: five wrong words came within a minute; for ten seconds no word is taken"

@@ -1,15 +1,13 @@
 //! What a request to the page may ask, and what it is answered. Nothing here opens a socket.
 //!
 //! `read_request` reads the request at the front of what has come from a connection: the head by the grammar of RFC
-//! 9112, over the kit's `httparse`, and a body of at most 256 bytes, or 4,096 if it is an edit of the show file. Its
-//! host, origin and token, and whether a page of another site asks, are looked at before anything else
-//! (`specs/Identity.antt`). A field that is there twice counts as not there; a head that says twice whose page asked is
-//! refused, and so is one whose body is coded. A press is the number of the view that was shown, a space, and the text
-//! of one of its buttons, as `712 go 12.5 31` for attempt 31: `specs/Requests.antt` (`IsPosted`),
-//! `specs/Presses.antt`; the lit buttons are given with these texts (`specs/Lit.antt`), and an answer is its bytes
-//! (`specs/Answers.antt`). An edit is the number of the text that was shown, a space, and a change, as
-//! `12 7 name Forest in`: `specs/Edits.antt`. A show may have a lock: a move of the place, a release and an edit want
-//! its word then (`specs/Locks.antt`).
+//! 9112, over the kit's `httparse`, and a body of at most 256 bytes. Its host, origin and token, and whether a page of
+//! another site asks, are looked at before anything else (`specs/Identity.antt`). A field that is there twice counts as
+//! not there; a head that says twice whose page asked is refused, and so is one whose body is coded. A press is the
+//! number of the view that was shown, a space, and the text of one of its buttons, as `712 go 12.5 31` for attempt 31:
+//! `specs/Requests.antt` (`IsCommand`), `specs/Presses.antt`; the lit buttons are given with these texts
+//! (`specs/Lit.antt`), and an answer is its bytes (`specs/Answers.antt`). A show may have a lock: a move of the place
+//! and a release want its word then (`specs/Locks.antt`).
 //!
 //! Why it is so:
 //! - Any page that the same person has open can send requests to this machine. So a command is taken only with our own
@@ -29,7 +27,6 @@
 #![tactic(auto)]
 
 pub mod answering;
-pub mod editing;
 mod fields;
 pub mod identity;
 pub mod laws;

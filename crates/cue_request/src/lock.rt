@@ -1,4 +1,4 @@
-//! The lock of a show: which presses need its word, that an edit needs it, and what becomes of words that are wrong.
+//! The lock of a show: which presses need its word, and what becomes of words that are wrong.
 ghost use Rattle.std.specs.Prelude.{◌≡◌, option_map, IsTrue};
 ghost use Rattle.std.specs.Char.{is_ascii_graphic};
 ghost use Rattle.std.specs.List.{list_all};
@@ -162,27 +162,17 @@ impl Guard {
         }
     }
 
-    /// Why something that needs the word is refused that comes now and says this of it; none if it is taken. Five wrong
-    /// words within a minute have every word refused for ten seconds, also the right one. Each edit needs the word.
-    pub fn judge_word(&mut self, now: u64, said: Said) -> Option<Refusal>
-        ensures verdict { result ≡ locks.verdict self.old now said }
-        ensures guard { self.new ≡ locks.after self.old now said }
-    {
-        let verdict = self.verdict(now, said);
-        *self = self.after(now, said);
-        verdict
-    }
-
-    /// Why the press of this button is refused that comes now and says this of the word; none if it is taken: one that
-    /// needs no word is.
+    /// Why the press of this button is refused that comes now and says this of the word; none if it is taken. Five
+    /// wrong words within a minute have every word refused for ten seconds, also the right one.
     pub fn judge(&mut self, button: Button, now: u64, said: Said) -> Option<Refusal>
         ensures verdict { result ≡ locks.verdict_on button self.old now said }
         ensures guard { self.new ≡ locks.after_press button self.old now said }
     {
-        if needs_word(button) {
-            self.judge_word(now, said)
-        } else {
-            None
+        if !needs_word(button) {
+            return None;
         }
+        let verdict = self.verdict(now, said);
+        *self = self.after(now, said);
+        verdict
     }
 }

@@ -1,12 +1,11 @@
 //! Requests: what the head of one says, and what it is allowed.
 ghost use Rattle.std.specs.Prelude.{◌≡◌, ◌≤◌, codes, drop, length, take, map, option_map};
-ghost use Rattle.std.specs.Prelude.{All, IfErr, IfSome, IfOk, Some, false};
+ghost use Rattle.std.specs.Prelude.{All, IfSome, IfOk, Some, false};
 ghost use Rattle.std.specs.Fmt.{decimal};
 ghost use Rattle.httparse.specs.Grammar.{ReadsRequest, RequestHead};
 ghost use Rattle.httparse.specs.Spans.{header_bytes, name_and_value, span_bytes, IsHeaderWithin, IsWithin};
 ghost use Rattle.cue_request.specs.Identity.{IsAskedHere, IsOfOthers};
-ghost use Rattle.cue_request.specs.Requests.{IsAsked, IsHeadOf, IsPostHead, IsPosted, OnBody, asked_of, most_of};
-ghost use Rattle.cue_request.specs.Requests.{target_of};
+ghost use Rattle.cue_request.specs.Requests.{IsAsked, IsCommand, IsCommandHead, IsHeadOf, OnCommand};
 
 use crate::fields::{has_field, has_many, only_value};
 use crate::identity::{PageIdentity, is_asked_here, is_from_page, is_played};
@@ -17,11 +16,8 @@ use httparse::spans::{EMPTY_HEADER_SPAN, HeaderSpan, RequestSpans, parse_request
 /// The longest head, in bytes.
 pub const MAX_HEAD: usize = 8192;
 
-/// The longest body of a command, in bytes.
+/// The longest body, in bytes.
 pub const MAX_BODY: usize = 256;
-
-/// The longest body of an edit, in bytes.
-pub const MAX_EDIT: usize = 4096;
 
 /// The most fields of a head.
 const MAX_FIELDS: usize = 64;
@@ -54,15 +50,6 @@ pub enum Asked {
     ShowFile,
     /// One thing is asked of the controller, by a body of so many bytes.
     Command(usize),
-    /// One change of the show file, by a body of so many bytes.
-    Edit(usize),
-}
-
-/// What a request with a body may ask.
-#[derive(Clone, Copy, Debug, PartialEq, Eq)]
-pub enum Post {
-    Command,
-    Edit,
 }
 
 /// Why a request is not carried out.
@@ -78,10 +65,8 @@ pub enum Refusal {
     Unknown,
     /// Its method is not one of its target.
     Method,
-    /// The body of a command is longer than `MAX_BODY`.
+    /// Its body is longer than `MAX_BODY`.
     LongBody,
-    /// The body of an edit is longer than `MAX_EDIT`.
-    LongEdit,
     /// It did not come whole in time.
     Late,
     /// It is a press, and the page only shows.
@@ -143,79 +128,31 @@ pub fn read_head(bytes: &[u8]) -> Result<Option<(Head<'_>, usize)>, Refusal>
     }
 }
 
-// How long a body is: in decimal, with no sign and no zero in front.
-fn length_in(text: Option<&[u8]>) -> Result<u64, Refusal>
-    ensures { IfOk result (λ size. option_map (λ v. v.now) text.entry ≡ Some (decimal size)) }
+// How long the body is: in decimal, with no sign and no zero in front.
+fn body_length(text: Option<&[u8]>) -> Result<usize, Refusal>
+    ensures short { IfOk result (λ size. size ≤ 256) }
+    ensures length { IfOk result (λ size. option_map (λ v. v.now) text.entry ≡ Some (decimal size)) }
 {
-    match text.and_then(|text| number_in(text)) {
-        Some(size) => Ok(size),
-        None => Err(Refusal::Unreadable),
+    let Some(size) = text.and_then(|text| number_in(text)) else {
+        return Err(Refusal::Unreadable);
+    };
+    match usize::try_from(size) {
+        Ok(size) if size <= MAX_BODY => Ok(size),
+        _ => Err(Refusal::LongBody),
     }
 }
 
-impl Post {
-    // The target of such a request.
-    fn target(self) -> &'static [u8]
-        ensures { result.now ≡ target_of self }
-    {
-        match self {
-            Post::Command => b"/command",
-            Post::Edit => b"/edit",
-        }
-    }
-
-    // How long its body may be.
-    fn most(self) -> usize
-        ensures { result ≡ most_of self }
-    {
-        match self {
-            Post::Command => MAX_BODY,
-            Post::Edit => MAX_EDIT,
-        }
-    }
-
-    // Why it is refused if its body is longer.
-    fn too_long(self) -> Refusal {
-        match self {
-            Post::Command => Refusal::LongBody,
-            Post::Edit => Refusal::LongEdit,
-        }
-    }
-
-    // What it asks with a body of so many bytes.
-    fn asked(self, size: usize) -> Asked
-        ensures { result ≡ asked_of self size }
-    {
-        match self {
-            Post::Command => Asked::Command(size),
-            Post::Edit => Asked::Edit(size),
-        }
-    }
-
-    // How long its body is, as its head says.
-    fn body_length(self, text: Option<&[u8]>) -> Result<usize, Refusal>
-        ensures short { IfOk result (λ size. size ≤ most_of self) }
-        ensures length { IfOk result (λ size. option_map (λ v. v.now) text.entry ≡ Some (decimal size)) }
-    {
-        match usize::try_from(length_in(text)?) {
-            Ok(size) if size <= self.most() => Ok(size),
-            _ => Err(self.too_long()),
-        }
-    }
-}
-
-// What is asked at the target of a request with a body: a page that only shows takes nothing there, whatever comes.
-#[tactic(auto, using(crate::proofs::RequestLemmas::on_asked))]
-fn judge_post(identity: &PageIdentity<'_>, head: &Head<'_>, post: Post) -> Result<Asked, Refusal>
-    requires target { head.now.target.now ≡ target_of post }
-    ensures { IfOk result (λ asked. OnBody asked (IsPostHead identity.now head.now)) }
+// What is asked at the target of the commands: a page that only shows takes nothing there, whatever comes.
+fn judge_command(identity: &PageIdentity<'_>, head: &Head<'_>) -> Result<Asked, Refusal>
+    requires target { head.now.target.now ≡ codes "/command" }
+    ensures { IfOk result (λ asked. OnCommand asked (IsCommandHead identity.now head.now)) }
 {
     if !is_played(identity.purpose) {
         Err(Refusal::OnlyShows)
     } else if head.method != b"POST".as_slice() {
         Err(Refusal::Method)
     } else if is_from_page(identity, head.host, head.origin, head.token) {
-        Ok(post.asked(post.body_length(head.length)?))
+        Ok(Asked::Command(body_length(head.length)?))
     } else {
         Err(Refusal::Foreign)
     }
@@ -223,7 +160,7 @@ fn judge_post(identity: &PageIdentity<'_>, head: &Head<'_>, post: Post) -> Resul
 
 // What is read at a target.
 fn judge_reading(target: &[u8]) -> Result<Asked, Refusal>
-    ensures { IfOk result (λ asked. OnBody asked (λ _ _. ⊥)) }
+    ensures { IfOk result (λ asked. OnCommand asked (λ _. ⊥)) }
 {
     if target == b"/".as_slice() {
         Ok(Asked::Page)
@@ -244,16 +181,14 @@ pub fn judge(identity: &PageIdentity<'_>, head: &Head<'_>) -> Result<Asked, Refu
     ensures uncoded { IfOk result (λ _. head.now.is_coded ≡ false) }
     ensures here { IfOk result (λ _. IsAskedHere identity.now (option_map (λ v. v.now) head.now.host)
         (option_map (λ v. v.now) head.now.origin)) }
-    ensures body { IfOk result (λ asked. OnBody asked (IsPostHead identity.now head.now)) }
+    ensures command { IfOk result (λ asked. OnCommand asked (IsCommandHead identity.now head.now)) }
 {
     if head.many_sites || !is_asked_here(identity, head.host, head.origin, head.site) {
         Err(Refusal::Foreign)
     } else if head.is_coded {
         Err(Refusal::Unreadable)
-    } else if head.target == Post::Command.target() {
-        judge_post(identity, head, Post::Command)
-    } else if head.target == Post::Edit.target() {
-        judge_post(identity, head, Post::Edit)
+    } else if head.target == b"/command".as_slice() {
+        judge_command(identity, head)
     } else if head.method == b"GET".as_slice() {
         judge_reading(head.target)
     } else {
@@ -265,7 +200,7 @@ pub fn judge(identity: &PageIdentity<'_>, head: &Head<'_>) -> Result<Asked, Refu
 #[derive(Clone, Copy)]
 pub struct Request<'a> {
     pub asked: Asked,
-    /// What stands in its body: of a command or an edit, so many bytes as its head says; else nothing.
+    /// What stands in its body: of a command, so many bytes as its head says; else nothing.
     pub body: &'a [u8],
     /// What it says of the word of the lock.
     pub word: Option<&'a [u8]>,
@@ -281,11 +216,11 @@ fn with_body<'a>(
     ensures asked { IfSome result (λ request. request.asked ≡ asked) }
     ensures word { IfSome result (λ request.
         option_map (λ v. v.now) request.word ≡ option_map (λ v. v.now) word.entry) }
-    ensures body { IfSome result (λ request. OnBody asked (λ _ size. (length request.body.now ≡ size)
+    ensures body { IfSome result (λ request. OnCommand asked (λ size. (length request.body.now ≡ size)
         × (request.body.now ≡ take size (drop start bytes.now)))) }
 {
     let size = match asked {
-        Asked::Command(size) | Asked::Edit(size) => size,
+        Asked::Command(size) => size,
         Asked::Page | Asked::Board | Asked::ShowFile => 0,
     };
     let body = bytes.get(start..)?.get(..size)?;
@@ -299,8 +234,8 @@ pub fn read_request<'a>(
     bytes: &'a [u8],
 ) -> Result<Option<Request<'a>>, Refusal>
     ensures asked { IfOk result (λ found. IfSome found (λ _. IsAsked identity.now bytes.now)) }
-    ensures body { IfOk result (λ found. IfSome found (λ request. OnBody request.asked (λ post _.
-        IsPosted identity.now post bytes.now request.body.now (option_map (λ v. v.now) request.word)))) }
+    ensures command { IfOk result (λ found. IfSome found (λ request. OnCommand request.asked (λ _.
+        IsCommand identity.now bytes.now request.body.now (option_map (λ v. v.now) request.word)))) }
 {
     match read_head(bytes)? {
         Some((head, start)) => {

@@ -1,4 +1,3 @@
 pub mod Laws
-pub mod Lines
 pub mod Pictures
 pub mod Terminal

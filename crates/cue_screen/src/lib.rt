@@ -1,5 +1,4 @@
-//! The lines of a board on a terminal, of which each picture draws those that have changed; where there is no terminal,
-//! `joined` has lines as one text.
+//! The lines of a board on a terminal, of which each picture draws those that have changed.
 //!
 //!     let mut screen = Screen::new(alloc);
 //!     let text = screen.picture(alloc, lines)?;
@@ -21,8 +20,6 @@
 #![tactic(auto)]
 
 pub mod laws;
-mod lines;
 mod screen;
 
-pub use lines::joined;
 pub use screen::{Screen, WHOLE};

@@ -18,4 +18,4 @@ mod text;
 
 pub use page::sheet_page;
 pub use sent::sent_text;
-pub use text::sheet_lines;
+pub use text::{sheet_lines, sheet_text};

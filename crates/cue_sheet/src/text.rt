@@ -288,3 +288,18 @@ pub fn sheet_lines(
     let Sheet { lines, .. } = sheet;
     Ok(lines)
 }
+
+/// The same lines as one text.
+pub fn sheet_text(
+    alloc: Global,
+    title: &str,
+    printed: &str,
+    file: &ShowFile,
+) -> Result<String, AllocError> {
+    let mut text = String::new(alloc);
+    for line in sheet_lines(alloc, title, printed, file)? {
+        text.push_str(line.as_str())?;
+        text.push('\n')?;
+    }
+    Ok(text)
+}

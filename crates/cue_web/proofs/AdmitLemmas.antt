@@ -9,8 +9,8 @@ use Rattle.cue_web.specs.declared.wire.Wire.{Wire}
 use Rattle.cue_web.specs.declared.connections.TheConstants.{MAX_ADMITTED, MAX_CONNECTIONS}
 
 -- So many came so far: they stand after those who were here, or were dropped; there is room for as many as there was.
-pub record ComeSoFar {S : Type 0} (room room_now : ℕ) (here all : List (Wire S)) (n : ℕ) : Type 0 where
-  pub came : List (Wire S)
+pub record ComeSoFar (room room_now : ℕ) (here all : List Wire) (n : ℕ) : Type 0 where
+  pub came : List Wire
   pub dropped : ℕ
   pub fresh : AreFresh came
   pub stand : all ≡ here ++ came
@@ -19,7 +19,7 @@ pub record ComeSoFar {S : Type 0} (room room_now : ℕ) (here all : List (Wire S
   pub roomy : room ≤ room_now
 
 -- nobody came yet
-pub come_none : {S : Type 0} → (room : ℕ) (here : List (Wire S)) → ComeSoFar room room here here 0
+pub come_none : (room : ℕ) (here : List Wire) → ComeSoFar room room here here 0
 come_none room here =
     record {
       came = [];
@@ -31,12 +31,12 @@ come_none room here =
       roomy = omega arith;
     }
 
-fresh-more : {S : Type 0} → (came : List (Wire S)) (c : Wire S) → AreFresh came → IsFresh c.connection → AreFresh (came ++ c ∷ [])
+fresh-more : (came : List Wire) (c : Wire) → AreFresh came → IsFresh c.connection → AreFresh (came ++ c ∷ [])
 fresh-more [] c past is = (is, tt)
 fresh-more (b ∷ came) c past is = (past.0, fresh-more came c past.1 is)
 
 -- one more came
-come-more : {S : Type 0} → (room room_now room_then : ℕ) (here all : List (Wire S)) (n : ℕ) (c : Wire S)
+come-more : (room room_now room_then : ℕ) (here all : List Wire) (n : ℕ) (c : Wire)
     → ComeSoFar room room_now here all n → IsFresh c.connection → room_now ≤ room_then
     → ComeSoFar room room_then here (all ++ c ∷ []) (n + 1)
 come-more room room_now room_then here all n c past is grown =
@@ -51,7 +51,7 @@ come-more room room_now room_then here all n c past is grown =
     }
 
 -- one more was dropped: there is no room for it
-come-dropped : {S : Type 0} → (room room_now room_then : ℕ) (here all : List (Wire S)) (n : ℕ)
+come-dropped : (room room_now room_then : ℕ) (here all : List Wire) (n : ℕ)
     → ComeSoFar room room_now here all n → n < MAX_ADMITTED → room_now ≤ length all → room_now ≤ room_then
     → ComeSoFar room room_then here all (n + 1)
 come-dropped room room_now room_then here all n past more full grown =
@@ -69,19 +69,19 @@ come-dropped room room_now room_then here all n past more full grown =
     }
 
 -- the next one came, or was dropped
-pub come_next : {S : Type 0} → (room room_now room_then : ℕ) (here all all_then : List (Wire S)) (n : ℕ) (c : Wire S)
+pub come_next : (room room_now room_then : ℕ) (here all all_then : List Wire) (n : ℕ) (c : Wire)
     (is_kept : Bool) → all_then ≡ (if is_kept then all ++ c ∷ [] else all)
     → (is_kept ≡ false → room_now ≤ length all) → room_now ≤ room_then → n < MAX_ADMITTED
     → ComeSoFar room room_now here all n → IsFresh c.connection → ComeSoFar room room_then here all_then (n + 1)
-come_next {S} room room_now room_then here all all_then n c true e full grown more past is =
-    subst (λ (l : List (Wire S)). ComeSoFar room room_then here l (n + 1)) (sym e)
+come_next room room_now room_then here all all_then n c true e full grown more past is =
+    subst (λ (l : List Wire). ComeSoFar room room_then here l (n + 1)) (sym e)
     (come-more room room_now room_then here all n c past is grown)
-come_next {S} room room_now room_then here all all_then n c false e full grown more past is =
-    subst (λ (l : List (Wire S)). ComeSoFar room room_then here l (n + 1)) (sym e)
+come_next room room_now room_then here all all_then n c false e full grown more past is =
+    subst (λ (l : List Wire). ComeSoFar room room_then here l (n + 1)) (sym e)
     (come-dropped room room_now room_then here all n past more (full refl) grown)
 
 -- as many came as are taken in one round
-pub come_all : {S : Type 0} → (room room_now : ℕ) (here all : List (Wire S)) (n : ℕ) → n ≤ MAX_ADMITTED → MAX_ADMITTED ≤ n
+pub come_all : (room room_now : ℕ) (here all : List Wire) (n : ℕ) → n ≤ MAX_ADMITTED → MAX_ADMITTED ≤ n
     → ComeSoFar room room_now here all n → Come room here all true
 come_all room room_now here all n few many past =
     record {
@@ -95,7 +95,7 @@ come_all room room_now here all n few many past =
     }
 
 -- nobody waits any more
-pub come_some : {S : Type 0} → (room room_now : ℕ) (here all : List (Wire S)) (n : ℕ) → n ≤ MAX_ADMITTED
+pub come_some : (room room_now : ℕ) (here all : List Wire) (n : ℕ) → n ≤ MAX_ADMITTED
     → ComeSoFar room room_now here all n → Come room here all false
 come_some room room_now here all n few past =
     record {
@@ -114,10 +114,10 @@ full_if (Ok v) p full e = absurd cc
 full_if (Err e) p full same = full
 
 -- those who have waited longest give way
-pub admits : {S : Type 0} → (room : ℕ) (here all here_then : List (Wire S)) (may_wait : Bool) → Come room here all may_wait
+pub admits : (room : ℕ) (here all here_then : List Wire) (may_wait : Bool) → Come room here all may_wait
     → here_then ≡ newest all → Admits room here here_then may_wait
 admits room here all here_then may_wait come stay = record { all = all; come = come; stay = stay }
 
 -- then they are not too many
-pub newest_few : {S : Type 0} → (cs : List (Wire S)) → length (newest cs) ≤ MAX_CONNECTIONS
+pub newest_few : (cs : List Wire) → length (newest cs) ≤ MAX_CONNECTIONS
 newest_few cs = let l = length-drop (length cs - MAX_CONNECTIONS) cs in omega arith

@@ -3,22 +3,20 @@ use Rattle.std.proofs.Common.{◌≡◌, ◌∙◌, refl, sym, ap, subst, ℕ, �
 use Rattle.std.proofs.Common.{set}
 use Rattle.std.proofs.Common.{get_or, filter}
 use Rattle.std.proofs.lemmas.List.{append-nil, append_assoc, drop_all, drop_more, get_or_at, length-append, length-map}
-use Rattle.std.proofs.lemmas.List.{map-append, map-set, set_at}
-use Rattle.std.proofs.Math.ListN.{get_or-map}
-use Rattle.cue_desk_rounds.proofs.WorkLemmas.{looks_none}
+use Rattle.std.proofs.lemmas.List.{map-append, set_at}
+use Rattle.cue_desk_run.proofs.WorkLemmas.{looks_none}
 use Rattle.cue_request.specs.declared.identity.PageIdentity.{PageIdentity}
 use Rattle.cue_request.specs.declared.lock.Guard.{Guard}
 use Rattle.cue_station.specs.declared.station.Station.{Station}
 use Rattle.cue_view.specs.declared.view.View.{View}
-use Rattle.cue_connection.specs.declared.connection.Connection.{Connection}
 use Rattle.cue_web.specs.declared.wire.Wire.{Wire}
 use Rattle.cue_web.proofs.ServeLemmas.{at_then, hands_then, served_one, served_then}
 use Rattle.cue_connection.specs.Stages.{AsksOnce}
 use Rattle.cue_web.specs.Serving.{AreAt, HandsOn, HasRound, OnlyAsked, OnlyServed, Serves, ServesEach}
-use Rattle.cue_web.specs.Serving.{Serving, are_here, connections}
+use Rattle.cue_web.specs.Serving.{Serving, is_here}
 
 -- Of the connections that were here the first so many were served; the others stand as they stood.
-pub record ServesFirst (page page_then : PageIdentity) (g g_then : Guard) (now : ℕ) (were are : List Connection)
+pub record ServesFirst (page page_then : PageIdentity) (g g_then : Guard) (now : ℕ) (were are : List Wire)
     (n : ℕ) (old new : Station) : Type 0 where
   pub servings : List Serving
   pub count : length servings ≡ n
@@ -30,7 +28,7 @@ pub record ServesFirst (page page_then : PageIdentity) (g g_then : Guard) (now :
   pub identity : page_then ≡ page
 
 -- none was served yet
-pub first_none : (page : PageIdentity) (g : Guard) (now : ℕ) (were : List Connection) (s : Station)
+pub first_none : (page : PageIdentity) (g : Guard) (now : ℕ) (were : List Wire) (s : Station)
     → ServesFirst page page g g now were were 0 s s
 first_none page g now were s =
     record {
@@ -46,15 +44,15 @@ first_none page g now were s =
 
 -- the next is served
 pub first_more : (page mid_page page_then : PageIdentity) (g mid_g g_then : Guard) (now : ℕ)
-    (were are : List Connection) (i : ℕ) (d c_then : Connection) (old mid new : Station) (v v_then : View)
+    (were are : List Wire) (i : ℕ) (d c_then : Wire) (old mid new : Station) (v v_then : View)
     → i < length were
     → ServesFirst page mid_page g mid_g now were are i old mid
     → Serves mid_page mid_g g_then now (get_or are i d) c_then mid new v v_then
-    → AsksOnce (get_or are i d).stage c_then.stage → page_then ≡ mid_page
+    → AsksOnce (get_or are i d).connection.stage c_then.connection.stage → page_then ≡ mid_page
     → ServesFirst page page_then g g_then now were (set are i c_then) (i + 1) old new
 first_more page mid_page page_then g mid_g g_then now were are i d c_then old mid new v v_then within past serves once
     same =
-    let c : Connection = get_or are i d in
+    let c : Wire = get_or are i d in
     let s : Serving = record {
       at = now;
       guard = mid_g;
@@ -66,10 +64,10 @@ first_more page mid_page page_then g mid_g g_then now were are i d c_then old mi
       view = v;
       view_then = v_then;
     } in
-    let next : Connection = get_or were i d in
-    let rest : List Connection = drop (i + 1) were in
-    let front : List Connection = map (λ (s : Serving). s.before) past.servings in
-    let back : List Connection = map (λ (s : Serving). s.after) past.servings in
+    let next : Wire = get_or were i d in
+    let rest : List Wire = drop (i + 1) were in
+    let front : List Wire = map (λ (s : Serving). s.before) past.servings in
+    let back : List Wire = map (λ (s : Serving). s.after) past.servings in
     let long : length back ≡ i = length-map past.servings (λ (s : Serving). s.after) ∙ past.count in
     let parts : are ≡ back ++ next ∷ rest = past.left ∙ ap (λ l. back ++ l) (drop_more were i d within) in
     let is : c ≡ next = ap (λ l. get_or l i d) parts ∙ get_or_at back next rest d i long in
@@ -93,44 +91,15 @@ first_more page mid_page page_then g mid_g g_then now were are i d c_then old mi
       identity = same ∙ past.identity;
     }
 
--- ---- over the ways to the browsers
-
--- Of the connections over these ways the first so many were served.
-abbrev pub FirstServed : {S : Type 0} → (page page_then : PageIdentity) → (g g_then : Guard) → ℕ
-    → (were are : List (Wire S)) → ℕ → (old new : Station) → Type 0
-FirstServed page page_then g g_then now were are n old new =
-    ServesFirst page page_then g g_then now (connections were) (connections are) n old new
-
--- the next is served
-pub first_next : {S : Type 0} → (page mid_page page_then : PageIdentity) (g mid_g g_then : Guard) (now : ℕ)
-    (were are : List (Wire S)) (i : ℕ) (d w_then : Wire S) (old mid new : Station) (v v_then : View)
-    → i < length were
-    → FirstServed page mid_page g mid_g now were are i old mid
-    → Serves mid_page mid_g g_then now (get_or are i d).connection w_then.connection mid new v v_then
-    → AsksOnce (get_or are i d).connection.stage w_then.connection.stage → page_then ≡ mid_page
-    → FirstServed page page_then g g_then now were (set are i w_then) (i + 1) old new
-first_next {S} page mid_page page_then g mid_g g_then now were are i d w_then old mid new v v_then within past serves
-    once same =
-    let f : Wire S → Connection = λ w. w.connection in
-    let at : get_or (connections are) i d.connection ≡ (get_or are i d).connection = get_or-map f are i d in
-    subst (λ (cs : List Connection). ServesFirst page page_then g g_then now (connections were) cs (i + 1) old new)
-    (sym (map-set f are i w_then))
-    (first_more page mid_page page_then g mid_g g_then now (connections were) (connections are) i d.connection
-    w_then.connection old mid new v v_then (subst (λ n. i < n) (sym (length-map were f)) within) past
-    (subst (λ (c : Connection). Serves mid_page mid_g g_then now c w_then.connection mid new v v_then) (sym at) serves)
-    (subst (λ (c : Connection). AsksOnce c.stage w_then.connection.stage) (sym at) once) same)
-
 -- all were served
-pub first_all : {S : Type 0} → (page page_then : PageIdentity) (g g_then : Guard) (now : ℕ) (were are : List (Wire S))
-    (n : ℕ) (old new : Station) → length were ≤ n → FirstServed page page_then g g_then now were are n old new
+pub first_all : (page page_then : PageIdentity) (g g_then : Guard) (now : ℕ) (were are : List Wire) (n : ℕ)
+    (old new : Station) → length were ≤ n → ServesFirst page page_then g g_then now were are n old new
     → ServesEach page page_then g g_then now were are old new
-first_all {S} page page_then g g_then now were are n old new long past =
-    let f : Wire S → Connection = λ w. w.connection in
-    let none : drop n (connections were) ≡ [] =
-    drop_all n (connections were) (subst (λ m. m ≤ n) (sym (length-map were f)) long) in
-    let each : connections were ≡ map (λ (s : Serving). s.before) past.servings =
+first_all page page_then g g_then now were are n old new long past =
+    let none : drop n were ≡ [] = drop_all n were long in
+    let each : were ≡ map (λ (s : Serving). s.before) past.servings =
     past.each ∙ ap (λ l. map (λ (s : Serving). s.before) past.servings ++ l) none ∙ append-nil _ in
-    let left : connections are ≡ map (λ (s : Serving). s.after) past.servings =
+    let left : are ≡ map (λ (s : Serving). s.after) past.servings =
     past.left ∙ ap (λ l. map (λ (s : Serving). s.after) past.servings ++ l) none ∙ append-nil _ in
     record {
       servings = past.servings;
@@ -143,14 +112,14 @@ first_all {S} page page_then g g_then now were are n old new long past =
     }
 
 -- those that are still there stay
-pub has_round : {S : Type 0} → (page page_then : PageIdentity) (g g_then : Guard) (now : ℕ) (here left here_then : List (Wire S))
-    (old new : Station) → ServesEach page page_then g g_then now here left old new → here_then ≡ filter are_here left
+pub has_round : (page page_then : PageIdentity) (g g_then : Guard) (now : ℕ) (here left here_then : List Wire)
+    (old new : Station) → ServesEach page page_then g g_then now here left old new → here_then ≡ filter is_here left
     → HasRound page page_then g g_then now here here_then old new
 has_round page page_then g g_then now here left here_then old new served stay =
     record { left = left; served = served; stay = stay }
 
 -- so nothing else was heard
-pub round_asked : {S : Type 0} → (page page_then : PageIdentity) (g g_then : Guard) (now : ℕ) (here left : List (Wire S))
+pub round_asked : (page page_then : PageIdentity) (g g_then : Guard) (now : ℕ) (here left : List Wire)
     (old new : Station) → ServesEach page page_then g g_then now here left old new
     → OnlyAsked page page_then g g_then old new
 round_asked page page_then g g_then now here left old new served =

@@ -1,27 +1,25 @@
 -- A connection is served.
-use Rattle.std.proofs.Common.{◌≡◌, ◌∙◌, refl, sym, ap, subst, inl, inr, ℕ, Bool, true, false, List, [], ◌∷◌, ◌++◌, set}
-use Rattle.cue_desk_rounds.specs.Working.{OnlyLooks}
-use Rattle.cue_desk_rounds.proofs.WorkLemmas.{looks_none, looks_then}
+use Rattle.std.proofs.Common.{◌≡◌, ◌∙◌, refl, sym, ap, subst, inl, inr, ℕ, Bool, true, false, List, [], ◌∷◌, ◌++◌}
+use Rattle.cue_desk_run.specs.Working.{OnlyLooks}
+use Rattle.cue_desk_run.proofs.WorkLemmas.{looks_none, looks_then}
 use Rattle.cue_request.specs.declared.identity.PageIdentity.{PageIdentity}
 use Rattle.cue_request.specs.declared.lock.Guard.{Guard}
 use Rattle.cue_station.specs.declared.station.Station.{Station}
 use Rattle.cue_view.specs.declared.view.View.{View}
 use Rattle.cue_connection.specs.declared.asking.Asking.{Asking}
-use Rattle.cue_connection.specs.declared.connection.Connection.{Connection}
+use Rattle.cue_web.specs.declared.wire.Wire.{Wire}
 use Rattle.cue_connection.specs.declared.stage.Stage.{Stage}
 use Rattle.cue_connection.specs.Asking.{AsksIn}
 use Rattle.cue_connection.specs.Stages.{AsksOnce, is_asking}
 use Rattle.cue_web.specs.Serving.{Answers, AreAt, HandsOn, IsServed, OnlyAsked, OnlyServed, Serves, Serving}
-use Rattle.cue_web.specs.Serving.{TellsOne}
-use Rattle.cue_web.specs.declared.wire.Wire.{Wire}
 use Rattle.cue_web.specs.Serving.{guard_after}
 
 -- ---- one connection
 
 -- it asked, was answered, and asks nothing more
-pub served : (identity : PageIdentity) (g g_then : Guard) (now : ℕ) (c mid c_then : Connection) (old new : Station)
-    (v v_then : View) (a : Asking) → AsksIn identity mid.input.items a → is_asking c.stage ≡ true
-    → is_asking c_then.stage ≡ false → c_then.input ≡ mid.input → Answers g now a old
+pub served : (identity : PageIdentity) (g g_then : Guard) (now : ℕ) (c mid c_then : Wire) (old new : Station)
+    (v v_then : View) (a : Asking) → AsksIn identity mid.connection.input.items a → is_asking c.connection.stage ≡ true
+    → is_asking c_then.connection.stage ≡ false → c_then.connection.input ≡ mid.connection.input → Answers g now a old
     new v v_then
     → g_then ≡ guard_after g now a → Serves identity g g_then now c c_then old new v v_then
 served identity g g_then now c mid c_then old new v v_then a came first over same answers counted =
@@ -35,7 +33,7 @@ served identity g g_then now c mid c_then old new v v_then a came first over sam
     })
 
 -- it asked nothing
-pub unasked : (identity : PageIdentity) (g : Guard) (now : ℕ) (c c_then : Connection) (s : Station) (v : View)
+pub unasked : (identity : PageIdentity) (g : Guard) (now : ℕ) (c c_then : Wire) (s : Station) (v : View)
     → Serves identity g g now c c_then s s v v
 unasked identity g now c c_then s v = inr (record { unheard = (refl, refl); uncounted = refl })
 
@@ -61,13 +59,13 @@ not-again was true once over = sym (once refl) ∙ over
 not-again was false once over = refl
 
 -- it was served, and goes on with its answer
-pub serves_on : (identity : PageIdentity) (g g_then : Guard) (now : ℕ) (c mid c_then : Connection)
+pub serves_on : (identity : PageIdentity) (g g_then : Guard) (now : ℕ) (c mid c_then : Wire)
     (old new : Station) (v v_then : View) → Serves identity g g_then now c mid old new v v_then
-    → AsksOnce mid.stage c_then.stage → c_then.input ≡ mid.input
+    → AsksOnce mid.connection.stage c_then.connection.stage → c_then.connection.input ≡ mid.connection.input
     → Serves identity g g_then now c c_then old new v v_then
 serves_on identity g g_then now c mid c_then old new v v_then (inl asked) once same =
     served identity g g_then now c mid c_then old new v v_then asked.asks asked.came asked.first
-    (not-again (is_asking mid.stage) (is_asking c_then.stage) once.once asked.over) same
+    (not-again (is_asking mid.connection.stage) (is_asking c_then.connection.stage) once.once asked.over) same
     asked.answers asked.counted
 serves_on identity g g_then now c mid c_then old new v v_then (inr nothing) once same = inr nothing
 
@@ -130,10 +128,3 @@ asked_then identity mid_identity identity_then g mid_g g_then old mid new a b =
           (subst (λ (i : PageIdentity). OnlyServed i b.servings mid new) a.identity b.heard);
       identity = b.identity ∙ a.identity;
     }
-
--- ---- an answer that was waited for
-
--- the one at this place asks nothing more, and the others are as they were
-pub tells_one : {S : Type 0} → (here here_then : List (Wire S)) (at : ℕ) (after : Wire S)
-    → here_then ≡ set here at after → is_asking after.connection.stage ≡ false → TellsOne here here_then
-tells_one here here_then at after stand over = inl (record { at = at; after = after; over = over; stand = stand })

@@ -1,4 +1,3 @@
 pub mod Admitting
-pub mod Editing
 pub mod Marking
 pub mod Serving

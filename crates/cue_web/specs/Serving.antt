@@ -1,10 +1,10 @@
 -- What a page lets the desk hear.
-use Rattle.std.specs.Prelude.{◌≡◌, ◌⊎◌, ℕ, ◌≤◌, Bool, true, false, List, [], ◌∷◌, map, filter, set, Option, None, Some}
-use Rattle.cue_desk_rounds.specs.Working.{HearsIf, OnlyLooks, Stays}
+use Rattle.std.specs.Prelude.{◌≡◌, ◌⊎◌, ℕ, ◌≤◌, Bool, true, false, List, [], ◌∷◌, map, filter, Option, None, Some}
+use Rattle.cue_desk_run.specs.Working.{HearsIf, OnlyLooks, Stays}
 use Rattle.cue_request.specs.declared.identity.PageIdentity.{PageIdentity}
 use Rattle.cue_request.specs.declared.lock.Guard.{Guard}
 use Rattle.cue_request.specs.declared.request.Refusal.{Refusal}
-use Rattle.cue_request.specs.Locks.{after, after_press, verdict_on}
+use Rattle.cue_request.specs.Locks.{after_press, verdict_on}
 use Rattle.cue_station.specs.declared.heard.Heard.TheVariants as heard
 use Rattle.cue_station.specs.declared.station.Station.{Station}
 use Rattle.cue_view.specs.declared.view.View.{View}
@@ -14,8 +14,6 @@ use Rattle.cue_connection.specs.declared.asking.Asking.{Asking}
 use Rattle.cue_connection.specs.declared.asking.Asking.TheVariants as asking
 use Rattle.cue_connection.specs.declared.asking.Pressed.{Pressed}
 use Rattle.cue_connection.specs.declared.connection.Connection.{Connection}
-use Rattle.cue_connection.specs.declared.stage.Stage.{Stage}
-use Rattle.cue_connection.specs.declared.stage.Stage.TheVariants as stage
 use Rattle.cue_web.specs.declared.wire.Came.{Came}
 use Rattle.cue_web.specs.declared.wire.Came.TheVariants as came
 use Rattle.cue_web.specs.declared.wire.Wire.{Wire}
@@ -36,26 +34,17 @@ Answers g now (asking.Press (Some p)) old new v v_then =
     HearsUnless (verdict_on p.button g now p.said) p old new v v_then
 Answers g now _ old new v v_then = Stays old new v v_then
 
--- the guard of the lock that this asking leaves: a press and an edit are counted as their word is right or wrong,
--- whether they are let through or refused, and nothing else is counted
+-- the guard of the lock that this asking leaves: a press is counted as its word is right or wrong, whether it is let
+-- through or refused, and nothing else is counted
 abbrev pub guard_after : Guard → ℕ → Asking → Guard
 guard_after g now (asking.Press (Some p)) = after_press p.button g now p.said
-guard_after g now (asking.Edit e) = after g now e.said
 guard_after g now _ = g
 
 -- ---- one connection
 
 -- it is still there
-abbrev pub is_here : Connection → Bool
-is_here c = is_here_at c.stage
-
--- it has asked, and waits for its answer
-abbrev pub is_waiting_at : Stage → Bool
-is_waiting_at stage.Asked = true
-is_waiting_at _ = false
-
-abbrev pub is_waiting : {S : Type 0} → Wire S → Bool
-is_waiting w = is_waiting_at w.connection.stage
+abbrev pub is_here : Wire → Bool
+is_here w = is_here_at w.connection.stage
 
 -- the bytes of a reading stand in its room
 abbrev pub IsWithin : Came → ℕ → Type 0
@@ -68,12 +57,12 @@ IsDropped c c_then =
     is_asking c.stage ≡ false → (is_asking c_then.stage ≡ false) × (c_then.input ≡ c.input)
 
 -- It was answered what it asked: a request that came whole, and it asks nothing more. The lock counts what it says.
-pub record ServesAsked (identity : PageIdentity) (g g_then : Guard) (now : ℕ) (c c_then : Connection)
+pub record ServesAsked (identity : PageIdentity) (g g_then : Guard) (now : ℕ) (c c_then : Wire)
     (old new : Station) (v v_then : View) : Type 0 where
   pub asks : Asking
-  pub came : AsksIn identity c_then.input.items asks
-  pub first : is_asking c.stage ≡ true
-  pub over : is_asking c_then.stage ≡ false
+  pub came : AsksIn identity c_then.connection.input.items asks
+  pub first : is_asking c.connection.stage ≡ true
+  pub over : is_asking c_then.connection.stage ≡ false
   pub answers : Answers g now asks old new v v_then
   pub counted : g_then ≡ guard_after g now asks
 
@@ -83,20 +72,12 @@ pub record ServesNothing (g g_then : Guard) (old new : Station) (v v_then : View
   pub uncounted : g_then ≡ g
 
 -- a connection is served: it asked, or nothing came of it
-abbrev pub Serves : PageIdentity → (g g_then : Guard) → ℕ → (c c_then : Connection) → (old new : Station)
+abbrev pub Serves : PageIdentity → (g g_then : Guard) → ℕ → (c c_then : Wire) → (old new : Station)
     → (v v_then : View) → Type 0
 Serves identity g g_then now c c_then old new v v_then =
     ServesAsked identity g g_then now c c_then old new v v_then ⊎ ServesNothing g g_then old new v v_then
 
 -- ---- one connection after the other
-
--- the connections over these ways
-abbrev pub connections : {S : Type 0} → List (Wire S) → List Connection
-connections ws = map (λ w. w.connection) ws
-
--- it is still there, over its way
-abbrev pub are_here : {S : Type 0} → Wire S → Bool
-are_here w = is_here w.connection
 
 -- A connection was served at a moment: by which guard of the lock, and which one it left; what the connection was and
 -- became, and what the desk was and became.
@@ -104,8 +85,8 @@ pub record Serving : Type 0 where
   pub at : ℕ
   pub guard : Guard
   pub guard_then : Guard
-  pub before : Connection
-  pub after : Connection
+  pub before : Wire
+  pub after : Wire
   pub old : Station
   pub new : Station
   pub view : View
@@ -114,7 +95,7 @@ pub record Serving : Type 0 where
 -- What the desk heard of it is what its own bytes ask and its lock lets through, and it does not ask again.
 pub record IsServed (identity : PageIdentity) (s : Serving) : Type 0 where
   pub serves : Serves identity s.guard s.guard_then s.at s.before s.after s.old s.new s.view s.view_then
-  pub once : AsksOnce s.before.stage s.after.stage
+  pub once : AsksOnce s.before.connection.stage s.after.connection.stage
 
 -- the desk heard nothing but looks, and these connections, which were served one after the other
 abbrev pub OnlyServed : PageIdentity → List Serving → (old new : Station) → Type 0
@@ -142,31 +123,19 @@ pub record OnlyAsked (page page_then : PageIdentity) (g g_then : Guard) (old new
 
 -- Each of these connections was served at this moment, once and in order, and they were left like this. Nothing else
 -- was heard, and the lock was handed on from each to the next.
-pub record ServesEach {S : Type 0} (page page_then : PageIdentity) (g g_then : Guard) (now : ℕ)
-    (here left : List (Wire S)) (old new : Station) : Type 0 where
+pub record ServesEach (page page_then : PageIdentity) (g g_then : Guard) (now : ℕ) (here left : List Wire)
+    (old new : Station) : Type 0 where
   pub servings : List Serving
   pub moment : AreAt now servings
   pub lock : HandsOn servings g g_then
-  pub each : map (λ (s : Serving). s.before) servings ≡ connections here
-  pub leaves : map (λ (s : Serving). s.after) servings ≡ connections left
+  pub each : map (λ (s : Serving). s.before) servings ≡ here
+  pub leaves : map (λ (s : Serving). s.after) servings ≡ left
   pub heard : OnlyServed page servings old new
   pub identity : page_then ≡ page
 
 -- A round: each connection that is here is served, and those that are still there stay as they were left.
-pub record HasRound {S : Type 0} (page page_then : PageIdentity) (g g_then : Guard) (now : ℕ)
-    (here here_then : List (Wire S)) (old new : Station) : Type 0 where
-  pub left : List (Wire S)
+pub record HasRound (page page_then : PageIdentity) (g g_then : Guard) (now : ℕ) (here here_then : List Wire)
+    (old new : Station) : Type 0 where
+  pub left : List Wire
   pub served : ServesEach page page_then g g_then now here left old new
-  pub stay : here_then ≡ filter are_here left
-
--- ---- an answer that was waited for
-
--- one of these that waits asks nothing more, and the others are as they were; if none waits, all are
-pub record IsTold {S : Type 0} (here here_then : List (Wire S)) : Type 0 where
-  pub at : ℕ
-  pub after : Wire S
-  pub over : is_asking after.connection.stage ≡ false
-  pub stand : here_then ≡ set here at after
-
-abbrev pub TellsOne : {S : Type 0} → (here here_then : List (Wire S)) → Type 0
-TellsOne here here_then = IsTold here here_then ⊎ (here_then ≡ here)
+  pub stay : here_then ≡ filter is_here left

@@ -1,28 +1,28 @@
 //! What the page is answered: itself, the newest view, the show file, and the view that a press has made.
 ghost use Rattle.std.specs.Prelude.{◌≡◌, is_some, option_map, IfOk, None, Some};
-ghost use Rattle.cue_request.specs.Locks.{after, after_press, untouched, verdict_on};
-ghost use Rattle.cue_web.specs.Editing.{Waits, WaitsAfter, WaitsIfRead};
+ghost use Rattle.cue_request.specs.Locks.{after_press, untouched, verdict_on};
 ghost use Rattle.cue_web.specs.Marking.{waiting_after};
 ghost use Rattle.cue_web.specs.Serving.{Answers, HearsOnce, HearsUnless, guard_after};
 ghost use Rattle.cue_connection.specs.declared.asking.Asking.TheVariants as asking;
 
 use cue_board::Names;
 use cue_connection::{
-    Answer, Asking, CurtainMove, EditBody, Pressed, json_answer, refused_answer, words_answer,
+    Answer, Asking, CurtainMove, Pressed, json_answer, refused_answer, trouble_answer,
 };
 use cue_core::State;
-use cue_desk_rounds::{Desk, World};
-use cue_edit::AskedEdit;
-use cue_page::board::{CurtainMark, EditSteps, Manner, Standing, view_text};
+use cue_desk_run::Desk;
+use cue_page::board::{CurtainMark, Manner, Standing, view_text};
 use cue_page::page::{page_text, policy};
 use cue_request::answering::{Kind, NOTHING, Outcome, answer};
-use cue_request::editing::read_edit;
 use cue_request::identity::{PageIdentity, Purpose};
 use cue_request::lock::Guard;
 use cue_request::request::Refusal;
 use cue_show_file::{Group, ShowFile, of_show, written};
 use cue_whereabouts::Difference;
 use std::alloc::{AllocError, Global};
+use std::fs::{File, Files};
+use std::net::Net;
+use std::time::Clock;
 
 /// What a press is answered that could not be heard.
 const NO_MEMORY: &str = "the desk is out of memory: nothing was sent";
@@ -38,12 +38,6 @@ const NO_MARKS: &str = "this page keeps no marks: start it with --marks";
 
 /// What a mark is answered while the one before it is not written down yet.
 const MARKING: &str = "the mark before it is not written down yet: nothing was marked";
-
-/// What a body is answered that is no edit.
-const NO_EDIT: &str = "this is no edit of the page: the show file stays as it is";
-
-/// What an edit is answered while the one before it is not written yet.
-const EDITING: &str = "the edit before it is not written yet: nothing was changed";
 
 /// What a page shows beside the views of the desk.
 #[derive(Drop)]
@@ -69,14 +63,9 @@ pub struct Pages<'a> {
     told: Option<String>,
     // Whether a rehearsal plays the devices.
     is_rehearsed: bool,
-    // A line for each program that hears buttons beside the show file.
-    inputs: Vec<String>,
     // When the curtain moved, if the page keeps marks; and the move that waits to be written down.
     marks: Option<Vec<CurtainMark>>,
     waiting: Option<CurtainMove>,
-    // What stands of the edits of the show file, if there is one; and the edit that waits to be judged and written.
-    steps: Option<EditSteps>,
-    edit: Option<AskedEdit>,
     // The newest view as text, and its number; none is drawn yet.
     drawn: Option<u64>,
     text: String,
@@ -115,7 +104,6 @@ impl<'a> Pages<'a> {
     ) -> Result<Pages<'a>, AllocError>
         ensures identity { IfOk result (λ pages. pages.identity ≡ identity.entry) }
         ensures guard { IfOk result (λ pages. pages.guard ≡ untouched) }
-        ensures edit { IfOk result (λ pages. pages.edit ≡ None) }
     {
         let (page, policy) = (page_text(alloc, token)?, policy(alloc)?);
         let page = answer(
@@ -132,11 +120,8 @@ impl<'a> Pages<'a> {
             beside,
             told: None,
             is_rehearsed: false,
-            inputs: Vec::new(alloc),
             marks: None,
             waiting: None,
-            steps: None,
-            edit: None,
             drawn: None,
             text: String::new(alloc),
         })
@@ -146,7 +131,6 @@ impl<'a> Pages<'a> {
     pub fn put_file(&mut self, file: ShowFile)
         ensures identity { self.new.identity ≡ self.old.identity }
         ensures guard { self.new.guard ≡ self.old.guard }
-        ensures edit { self.new.edit ≡ self.old.edit }
     {
         self.beside.file = Some(file);
         self.drawn = None;
@@ -156,7 +140,6 @@ impl<'a> Pages<'a> {
     pub fn tell(&mut self, told: Option<String>)
         ensures identity { self.new.identity ≡ self.old.identity }
         ensures guard { self.new.guard ≡ self.old.guard }
-        ensures edit { self.new.edit ≡ self.old.edit }
     {
         if self.told != told {
             self.told = told;
@@ -169,24 +152,10 @@ impl<'a> Pages<'a> {
         ensures shown { self.new.is_rehearsed ≡ is_rehearsed }
         ensures identity { self.new.identity ≡ self.old.identity }
         ensures guard { self.new.guard ≡ self.old.guard }
-        ensures edit { self.new.edit ≡ self.old.edit }
         ensures waiting { self.new.waiting ≡ self.old.waiting }
     {
         if self.is_rehearsed != is_rehearsed {
             self.is_rehearsed = is_rehearsed;
-            self.drawn = None;
-        }
-    }
-
-    /// From now on these lines say how the programs are that hear buttons.
-    pub fn show_inputs(&mut self, inputs: Vec<String>)
-        ensures identity { self.new.identity ≡ self.old.identity }
-        ensures guard { self.new.guard ≡ self.old.guard }
-        ensures waiting { self.new.waiting ≡ self.old.waiting }
-        ensures edit { self.new.edit ≡ self.old.edit }
-    {
-        if self.inputs != inputs {
-            self.inputs = inputs;
             self.drawn = None;
         }
     }
@@ -196,7 +165,6 @@ impl<'a> Pages<'a> {
         ensures shown { self.new.marks ≡ Some marks }
         ensures identity { self.new.identity ≡ self.old.identity }
         ensures guard { self.new.guard ≡ self.old.guard }
-        ensures edit { self.new.edit ≡ self.old.edit }
         ensures waiting { self.new.waiting ≡ self.old.waiting }
     {
         self.marks = Some(marks);
@@ -209,32 +177,10 @@ impl<'a> Pages<'a> {
         ensures once { self.new.waiting ≡ None }
         ensures identity { self.new.identity ≡ self.old.identity }
         ensures guard { self.new.guard ≡ self.old.guard }
-        ensures edit { self.new.edit ≡ self.old.edit }
     {
         let waiting = self.waiting;
         self.waiting = None;
         waiting
-    }
-
-    /// From now on this stands of the edits of the show file.
-    pub fn show_steps(&mut self, steps: EditSteps)
-        ensures shown { self.new.steps ≡ Some steps }
-        ensures identity { self.new.identity ≡ self.old.identity }
-        ensures guard { self.new.guard ≡ self.old.guard }
-        ensures edit { self.new.edit ≡ self.old.edit }
-    {
-        self.steps = Some(steps);
-        self.drawn = None;
-    }
-
-    /// The edit that waits to be judged and written, once.
-    pub fn take_edit(&mut self) -> Option<AskedEdit>
-        ensures taken { result ≡ self.old.edit }
-        ensures once { self.new.edit ≡ None }
-        ensures identity { self.new.identity ≡ self.old.identity }
-        ensures guard { self.new.guard ≡ self.old.guard }
-    {
-        self.edit.take()
     }
 
     /// Where the page is.
@@ -250,11 +196,14 @@ impl<'a> Pages<'a> {
     }
 
     // Draws the newest view, if it is not drawn yet.
-    fn draw<W: World + Drop>(&mut self, desk: &Desk<'_, W>, alloc: Global) -> Result<(), AllocError>
+    fn draw<R: Files<File = File> + Net + Clock + AllocGlobal>(
+        &mut self,
+        desk: &Desk<'_, R>,
+        alloc: Global,
+    ) -> Result<(), AllocError>
         ensures identity { self.new.identity ≡ self.old.identity }
         ensures guard { self.new.guard ≡ self.old.guard }
         ensures waiting { self.new.waiting ≡ self.old.waiting }
-        ensures edit { self.new.edit ≡ self.old.edit }
     {
         let view = desk.view();
         if self.drawn == Some(view.number) {
@@ -267,9 +216,7 @@ impl<'a> Pages<'a> {
             is_read_only: matches!(self.identity.purpose, Purpose::Shows(_)),
             told: self.told.as_deref(),
             is_rehearsed: self.is_rehearsed,
-            inputs: &self.inputs,
             marks: self.marks.as_deref(),
-            steps: self.steps,
         };
         let standing = standing_of(desk.differences(), desk.state());
         self.text = view_text(alloc, view, &standing, &names, &manner)?;
@@ -278,24 +225,23 @@ impl<'a> Pages<'a> {
     }
 
     // The newest view. Ten who ask for it cost one drawing.
-    fn view_answer<W: World + Drop>(
+    fn view_answer<R: Files<File = File> + Net + Clock + AllocGlobal>(
         &mut self,
-        desk: &Desk<'_, W>,
+        desk: &Desk<'_, R>,
         alloc: Global,
     ) -> Result<String, AllocError>
         ensures identity { self.new.identity ≡ self.old.identity }
         ensures guard { self.new.guard ≡ self.old.guard }
         ensures waiting { self.new.waiting ≡ self.old.waiting }
-        ensures edit { self.new.edit ≡ self.old.edit }
     {
         self.draw(desk, alloc)?;
         json_answer(alloc, Outcome::Done, self.text.as_str())
     }
 
     // The view that follows this press, which the lock lets through.
-    fn heard_answer<W: World + Drop>(
+    fn heard_answer<R: Files<File = File> + Net + Clock + AllocGlobal>(
         &mut self,
-        desk: &mut Desk<'_, W>,
+        desk: &mut Desk<'_, R>,
         alloc: Global,
         pressed: &Pressed,
     ) -> Result<String, AllocError>
@@ -303,19 +249,18 @@ impl<'a> Pages<'a> {
         ensures identity { self.new.identity ≡ self.old.identity }
         ensures guard { self.new.guard ≡ self.old.guard }
         ensures waiting { self.new.waiting ≡ self.old.waiting }
-        ensures edit { self.new.edit ≡ self.old.edit }
     {
         if desk.press(pressed.view, pressed.button) {
             self.view_answer(desk, alloc)
         } else {
-            words_answer(alloc, Outcome::Unavailable, NO_MEMORY)
+            trouble_answer(alloc, Outcome::Unavailable, NO_MEMORY)
         }
     }
 
     // The view that follows this press, or why the lock refuses it.
-    fn pressed_answer<W: World + Drop>(
+    fn pressed_answer<R: Files<File = File> + Net + Clock + AllocGlobal>(
         &mut self,
-        desk: &mut Desk<'_, W>,
+        desk: &mut Desk<'_, R>,
         alloc: Global,
         pressed: &Pressed,
         now: u64,
@@ -325,7 +270,6 @@ impl<'a> Pages<'a> {
         ensures identity { self.new.identity ≡ self.old.identity }
         ensures guard { self.new.guard ≡ after_press pressed.now.button self.old.guard now pressed.now.said }
         ensures waiting { self.new.waiting ≡ self.old.waiting }
-        ensures edit { self.new.edit ≡ self.old.edit }
     {
         match self.guard.judge(pressed.button, now, pressed.said) {
             Some(refusal) => refused_answer(alloc, refusal),
@@ -334,9 +278,9 @@ impl<'a> Pages<'a> {
     }
 
     // What the body of a press is answered: one that is none is refused.
-    fn press_answer<W: World + Drop>(
+    fn press_answer<R: Files<File = File> + Net + Clock + AllocGlobal>(
         &mut self,
-        desk: &mut Desk<'_, W>,
+        desk: &mut Desk<'_, R>,
         alloc: Global,
         press: &Option<Pressed>,
         now: u64,
@@ -346,18 +290,17 @@ impl<'a> Pages<'a> {
         ensures identity { self.new.identity ≡ self.old.identity }
         ensures guard { self.new.guard ≡ guard_after self.old.guard now (asking.Press press.now) }
         ensures waiting { self.new.waiting ≡ self.old.waiting }
-        ensures edit { self.new.edit ≡ self.old.edit }
     {
         match press {
             Some(pressed) => self.pressed_answer(desk, alloc, pressed, now),
-            None => words_answer(alloc, Outcome::Refused(Refusal::Unreadable), NO_PRESS),
+            None => trouble_answer(alloc, Outcome::Refused(Refusal::Unreadable), NO_PRESS),
         }
     }
 
     // What a mark is answered: the newest view, or why it is not written down.
-    fn mark_answer<W: World + Drop>(
+    fn mark_answer<R: Files<File = File> + Net + Clock + AllocGlobal>(
         &mut self,
-        desk: &Desk<'_, W>,
+        desk: &Desk<'_, R>,
         alloc: Global,
         curtain: CurtainMove,
     ) -> Result<String, AllocError>
@@ -365,100 +308,53 @@ impl<'a> Pages<'a> {
             ≡ waiting_after (is_some self.old.marks) self.old.waiting (asking.Mark curtain) }
         ensures identity { self.new.identity ≡ self.old.identity }
         ensures guard { self.new.guard ≡ self.old.guard }
-        ensures edit { self.new.edit ≡ self.old.edit }
     {
         if self.waiting.is_some() {
-            return words_answer(alloc, Outcome::Unavailable, MARKING);
+            return trouble_answer(alloc, Outcome::Unavailable, MARKING);
         }
         if self.marks.is_none() {
-            return words_answer(alloc, Outcome::Unavailable, NO_MARKS);
+            return trouble_answer(alloc, Outcome::Unavailable, NO_MARKS);
         }
         self.waiting = Some(curtain);
         self.view_answer(desk, alloc)
     }
 
-    // What an edit is answered that the lock lets through: nothing yet, since it is judged and written once all who
-    // press were heard; or why it is not looked at.
-    fn wished_answer(&mut self, alloc: Global, body: &[u8]) -> Result<Option<String>, AllocError>
-        ensures edit { WaitsIfRead body.now self.old.edit self.new.edit }
-        ensures identity { self.new.identity ≡ self.old.identity }
-        ensures guard { self.new.guard ≡ self.old.guard }
-        ensures waiting { self.new.waiting ≡ self.old.waiting }
-    {
-        if self.edit.is_some() {
-            return Ok(Some(words_answer(alloc, Outcome::Unavailable, EDITING)?));
-        }
-        match read_edit(alloc, body)? {
-            Some(asked) => {
-                self.edit = Some(asked);
-                Ok(None)
-            }
-            None => Ok(Some(words_answer(alloc, Outcome::Refused(Refusal::Unreadable), NO_EDIT)?)),
-        }
-    }
-
-    // What an edit is answered, if it is answered at once.
-    fn edit_answer(
-        &mut self,
-        alloc: Global,
-        edit: EditBody,
-        came: &[u8],
-        now: u64,
-    ) -> Result<Option<String>, AllocError>
-        ensures edit { Waits self.old.guard now edit came.now self.old.edit self.new.edit }
-        ensures identity { self.new.identity ≡ self.old.identity }
-        ensures guard { self.new.guard ≡ after self.old.guard now edit.said }
-        ensures waiting { self.new.waiting ≡ self.old.waiting }
-    {
-        match self.guard.judge_word(now, edit.said) {
-            Some(refusal) => Ok(Some(refused_answer(alloc, refusal)?)),
-            None => self.wished_answer(alloc, edit.of(came)),
-        }
-    }
-
     // The show as a show file: the one that was handed in, else that of the store.
-    fn file_answer<W: World + Drop>(
+    fn file_answer<R: Files<File = File> + Net + Clock + AllocGlobal>(
         &self,
-        desk: &Desk<'_, W>,
+        desk: &Desk<'_, R>,
         alloc: Global,
     ) -> Result<String, AllocError> {
         let text = match (&self.beside.file, desk.state()) {
             (Some(file), _) => written(alloc, file)?,
             (None, Some(state)) => written(alloc, &of_show(alloc, state.show())?)?,
-            (None, None) => return words_answer(alloc, Outcome::Unavailable, NO_STORE),
+            (None, None) => return trouble_answer(alloc, Outcome::Unavailable, NO_STORE),
         };
         answer(alloc, Outcome::Done, Kind::Text, NOTHING, text.as_str())
     }
 
-    /// What a connection is answered that asks this now, by all that came of it; none if it is an edit that is judged
-    /// and written once all who press were heard.
-    pub fn answer<W: World + Drop>(
+    /// What a connection is answered that asks this now.
+    pub fn answer<R: Files<File = File> + Net + Clock + AllocGlobal>(
         &mut self,
-        desk: &mut Desk<'_, W>,
+        desk: &mut Desk<'_, R>,
         alloc: Global,
         asking: &Asking,
-        came: &[u8],
         now: u64,
-    ) -> Result<Option<Answer>, AllocError>
+    ) -> Result<Answer, AllocError>
         ensures answers { Answers self.old.guard now asking.now desk.old.station desk.new.station desk.old.view
             desk.new.view }
         ensures identity { self.new.identity ≡ self.old.identity }
         ensures guard { self.new.guard ≡ guard_after self.old.guard now asking.now }
         ensures marks { self.new.waiting ≡ waiting_after (is_some self.old.marks) self.old.waiting asking.now }
-        ensures edit { WaitsAfter self.old.guard now asking.now came.now self.old.edit self.new.edit }
     {
         let text = match asking {
-            Asking::Page => return Ok(Some(Answer::Page)),
+            Asking::Page => return Ok(Answer::Page),
             Asking::View => self.view_answer(desk, alloc)?,
             Asking::ShowFile => self.file_answer(desk, alloc)?,
             Asking::Press(press) => self.press_answer(desk, alloc, press, now)?,
             Asking::Mark(curtain) => self.mark_answer(desk, alloc, *curtain)?,
-            Asking::Edit(edit) => match self.edit_answer(alloc, *edit, came, now)? {
-                Some(text) => text,
-                None => return Ok(None),
-            },
             Asking::Refused(refusal) => refused_answer(alloc, *refusal)?,
         };
-        Ok(Some(Answer::Text(text)))
+        Ok(Answer::Text(text))
     }
 }

@@ -4,13 +4,14 @@ ghost use Rattle.cue_connection.specs.Asking.{AsksIn};
 ghost use Rattle.cue_connection.specs.Connecting.{IsFresh};
 ghost use Rattle.cue_connection.specs.Stages.{AsksOnce, is_asking};
 ghost use Rattle.cue_connection.specs.declared.connection.TheConstants.{PATIENCE};
-ghost use Rattle.cue_web.specs.Serving.{IsDropped, IsWithin, is_here, is_waiting};
+ghost use Rattle.cue_web.specs.Serving.{IsDropped, IsWithin, is_here};
 
-use crate::stream::Stream;
 use cue_connection::{Answer, Asking, Connection, Stage};
 use cue_request::identity::PageIdentity;
+use mio::net::TcpStream;
 use std::alloc::Global;
-use std::io::ErrorKind;
+use std::io::{ErrorKind, Read, Write};
+use std::net::Shutdown;
 
 /// How many bytes are read at once.
 const PIECE: usize = 1024;
@@ -32,15 +33,15 @@ enum Came {
     Broken,
 }
 
-/// A connection over the way to its browser.
+/// A connection over its socket.
 #[derive(Drop)]
-pub struct Wire<S> {
-    stream: S,
+pub struct Wire {
+    stream: TcpStream,
     connection: Connection,
 }
 
 // Reads what is there, into this room.
-fn read_from<S: Stream>(stream: &mut S, room: &mut [u8]) -> Came
+fn read_from<S: Read>(stream: &mut S, room: &mut [u8]) -> Came
     ensures { IsWithin result (length room.new) }
 {
     match stream.read(room) {
@@ -54,9 +55,9 @@ fn read_from<S: Stream>(stream: &mut S, room: &mut [u8]) -> Came
     }
 }
 
-impl<S: Stream> Wire<S> {
+impl Wire {
     /// A connection that begins now.
-    pub fn new(alloc: Global, stream: S, now: u64) -> Wire<S>
+    pub fn new(alloc: Global, stream: TcpStream, now: u64) -> Wire
         ensures fresh { IsFresh result.connection }
         ensures soon { result.connection.until ≤ now + PATIENCE }
     {
@@ -68,7 +69,7 @@ impl<S: Stream> Wire<S> {
 
     /// Whether it is still there.
     pub fn is_here(&self) -> bool
-        ensures { result ≡ is_here self.now.connection }
+        ensures { result ≡ is_here self.now }
     {
         self.connection.is_here()
     }
@@ -118,28 +119,10 @@ impl<S: Stream> Wire<S> {
         }
     }
 
-    /// What came of its request so far.
-    pub fn came(&self) -> &[u8]
-        ensures { result.now ≡ self.now.connection.input.items }
-    {
-        self.connection.came()
-    }
-
-    /// Whether it has asked, and waits for its answer.
-    pub fn is_waiting(&self) -> bool
-        ensures { result ≡ is_waiting self.now }
-    {
-        match self.connection.stage() {
-            Stage::Asked => true,
-            Stage::Asking | Stage::Hearing | Stage::Leaving | Stage::Gone => false,
-        }
-    }
-
     /// Hears what it asks, once, if that has come whole, is refused, came too late or has ended before.
     pub fn hear(&mut self, identity: &PageIdentity<'_>, now: u64) -> Option<Asking>
         ensures asks { IfSome result (AsksIn identity.now self.new.connection.input.items) }
         ensures first { IfSome result (λ _. is_asking self.old.connection.stage ≡ true) }
-        ensures over { IfSome result (λ _. is_asking self.new.connection.stage ≡ false) }
         ensures once { AsksOnce self.old.connection.stage self.new.connection.stage }
     {
         self.read_request();
@@ -167,7 +150,7 @@ impl<S: Stream> Wire<S> {
         ensures once { AsksOnce self.old.connection.stage self.new.connection.stage }
         ensures input { self.new.connection.input ≡ self.old.connection.input }
     {
-        match self.stream.finish() {
+        match self.stream.shutdown(Shutdown::Write) {
             Ok(()) => self.connection.finish(),
             Err(_) => self.connection.leave(),
         }

@@ -1,5 +1,5 @@
 -- What a desk begins with.
-use Rattle.std.specs.Prelude.{◌≡◌, ℕ, Bool, List, [], Option, None, Some, is_some, option_and_then}
+use Rattle.std.specs.Prelude.{◌≡◌, ℕ, List, [], Option, None, Some, option_and_then}
 use Rattle.cue_desk.specs.Ports.{port_of}
 use Rattle.cue_show_file.specs.Together.{groups_in}
 use Rattle.cue_show_file.specs.declared.file.ShowFile.{ShowFile}
@@ -14,9 +14,3 @@ together_in (Some file) = groups_in file
 pub record IsBegun (said : Option ℕ) (file : Option ShowFile) (port : ℕ) (together : List Group) : Type 0 where
   pub port_is : port ≡ port_of said (option_and_then (λ f. f.port) file)
   pub together_is : together ≡ together_in file
-
--- The same of some file, which there is if its path was said.
-pub record IsBegunBy (said : Option ℕ) (is_said : Bool) (port : ℕ) (together : List Group) : Type 0 where
-  pub file : Option ShowFile
-  pub is_read : is_some file ≡ is_said
-  pub begun : IsBegun said file port together

@@ -1,13 +1,11 @@
 pub mod Beginning
+pub mod Beside
 pub mod Carrying
-pub mod Changing
 pub mod Devices
-pub mod Locking
 pub mod Marking
 pub mod NewFiles
-pub mod Pressing
+pub mod Orders
 pub mod Relaying
 pub mod Reporting
-pub mod Sheets
-pub mod Tables
+pub mod Titles
 pub mod Windows

@@ -7,6 +7,10 @@
 //! machine fails.
 //!
 //! Why it is so:
+//! - The board draws the lines that have changed, each at its place, and neither hides the cursor nor takes another
+//!   screen: nothing is left to be put back when it is ended by a signal. All lines are drawn again every two seconds,
+//!   for a window that has got another size. No call of the kit gives the size of a window: it is taken to have 24
+//!   rows, and `--rows` says otherwise.
 //! - `board --once` ends as soon as a status was answered and a copy was read. If the two disagree then, it says so:
 //!   beside each change they disagree for a moment.
 //! - `load --replace` reads the store, since no reply says what the file does not have, nor in which order the known

@@ -1,16 +1,14 @@
 //! The program: what each command does, prints and answers.
-ghost use Rattle.std.specs.Prelude.{◌≡◌, ◌↔◌, option_and_then, option_copied};
+ghost use Rattle.std.specs.Prelude.{◌≡◌, ◌↔◌};
 ghost use Rattle.cue_desk.specs.Endings.{ending_status};
 ghost use Rattle.cue_desk.specs.Lines.{IsHelp, IsUsage};
 ghost use Rattle.cue_desk.specs.declared.line.LineFault.TheVariants.{Memory};
-ghost use Rattle.cue_desk.specs.Ports.{port_of};
 ghost use Rattle.cuedesk.specs.Carrying as carrying;
 
 mod beside;
 mod board;
 mod buttons;
 mod editing;
-mod inputs;
 mod locking;
 mod marks;
 mod new;
@@ -23,12 +21,10 @@ mod renewing;
 mod reporting;
 mod sheet;
 mod sign;
-mod table;
 mod web;
 
-use board::show_board;
+use board::{show_board, window_of};
 use buttons::hear_buttons;
-use cue_board_window::window_of;
 use cue_desk::ending::Ending;
 use cue_desk::line::LineFault;
 use cue_desk::orders::DeskCommand;
@@ -53,13 +49,10 @@ use std::io::{Eprint, Write};
 use std::net::Net;
 use std::random::RandomSource;
 use std::time::Clock;
-use table::table_file;
 use web::serve_page;
 
 /// The port of the controller: the one that was said, else that of the show file, else 9100.
-pub fn port_of(said: Option<u16>, file: Option<&ShowFile>) -> u16
-    ensures { result ≡ port_of said (option_and_then (λ f. f.port) (option_copied file.entry)) }
-{
+pub fn port_of(said: Option<u16>, file: Option<&ShowFile>) -> u16 {
     controller_port(said, file.and_then(|file| file.port))
 }
 
@@ -143,7 +136,6 @@ fn carry_out<R: Files<File = File> + Net + Clock + RandomSource + Eprint + Alloc
         Line::Sheet { file, html, title } => {
             print_sheet(rt, file.as_str(), title.as_str(), *html, writer)
         }
-        Line::Table { file, tabling } => table_file(rt, file.as_str(), tabling, writer),
         Line::Board {
             watched,
             once,

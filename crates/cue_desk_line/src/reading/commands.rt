@@ -9,7 +9,6 @@ use super::pressing::{GO_COMMAND, STANDBY_COMMAND};
 use super::rehearsing::REHEARSE_COMMAND;
 use super::reporting::{MARK_COMMAND, REPORT_COMMAND};
 use super::sheet::{NEW_COMMAND, SHEET_COMMAND};
-use super::tabling::TABLE_COMMAND;
 use super::web::WEB_COMMAND;
 use clap::Command;
 use std::alloc::{AllocError, Global};
@@ -21,7 +20,7 @@ const CUE: Argument = Argument::Word("CUE", "The number of the cue, as 12.5");
 const DEVICE: Argument = Argument::Word("DEVICE", "The number of the device, 0 to 111");
 
 /// The commands that read or write a show file, and end.
-const FILES: [Declared; 9] = [
+const FILES: [Declared; 8] = [
     NEW_COMMAND,
     Declared {
         name: "check",
@@ -30,7 +29,6 @@ const FILES: [Declared; 9] = [
     },
     EDIT_COMMAND,
     SHEET_COMMAND,
-    TABLE_COMMAND,
     Declared {
         name: "load",
         about: "Add the devices and cues of a show file, and compare:  cuedesk load evening.toml show",

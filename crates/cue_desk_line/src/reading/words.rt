@@ -4,7 +4,6 @@ use super::editing::Editing;
 use super::pressing::Pressed;
 use super::rehearsing::Rehearsal;
 use super::reporting::Report;
-use super::tabling::Tabling;
 use super::web::Web;
 use cue_asker::AskerName;
 use cue_desk::orders::DeskCommand;
@@ -78,11 +77,6 @@ pub enum Line {
         /// What the show is called; empty if that is not said.
         title: String,
     },
-    /// Print the cues of this show file as a table, or take one.
-    Table {
-        file: String,
-        tabling: Tabling,
-    },
     /// Show the board.
     Board {
         watched: Watched,
@@ -145,7 +139,6 @@ impl Line {
             | Line::New { .. }
             | Line::Edit { .. }
             | Line::Sheet { .. }
-            | Line::Table { .. }
             | Line::Rehearse(_)
             | Line::Mark { .. }
             | Line::Report(_) => None,
@@ -162,7 +155,6 @@ impl Line {
             Line::Check { .. } | Line::Export { .. } | Line::Load { .. } => None,
             Line::New { .. } | Line::Edit { .. } | Line::Sheet { .. } | Line::Report(_) => None,
             Line::Board { .. } | Line::Rehearse(_) | Line::Relay { .. } | Line::Mark { .. } => None,
-            Line::Table { .. } => None,
         }
     }
 }

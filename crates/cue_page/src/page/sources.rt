@@ -5,10 +5,8 @@ mod claims;
 mod clocks;
 mod controls;
 mod drawing;
-mod editing;
 mod elements;
 mod finding;
-mod inputs;
 mod keys;
 mod layout;
 mod lines;
@@ -30,7 +28,7 @@ mod windows;
 pub(super) const STYLES: [&str; 4] = [themes::TEXT, layout::TEXT, controls::TEXT, narrow::TEXT];
 
 /// The scripts, in order: what one does at once stands in those before it.
-pub(super) const SCRIPTS: [&str; 21] = [
+pub(super) const SCRIPTS: [&str; 19] = [
     elements::TEXT,
     naming::TEXT,
     windows::TEXT,
@@ -46,10 +44,8 @@ pub(super) const SCRIPTS: [&str; 21] = [
     lines::TEXT,
     settings::TEXT,
     clocks::TEXT,
-    inputs::TEXT,
     sounding::TEXT,
     locking::TEXT,
-    editing::TEXT,
     drawing::TEXT,
     pressing::TEXT,
 ];
@@ -75,7 +71,6 @@ pub(super) const BODY: &str = r#"">
 <h1>CUEDESK</h1>
 <div id="rehearsal" role="status" hidden><b>REHEARSAL</b><span>: cuedesk rehearse plays the devices</span></div>
 <div id="mode" hidden>READ ONLY</div>
-<div id="inputs" role="group" aria-label="Buttons" hidden></div>
 <div id="clocks" role="group" aria-label="Clocks"><span id="wall" role="timer" aria-label="Time"></span>
 <span id="last-go" role="timer" aria-label="Last GO" hidden></span>
 <span id="act" role="timer" aria-label="Act" hidden></span>
@@ -120,23 +115,6 @@ pub(super) const BODY: &str = r#"">
 <input id="lock-word" type="text" autocomplete="off" spellcheck="false">
 <button id="lock-open" class="small" type="submit">Unlock</button>
 <button id="lock-leave" class="small" type="button">Leave it</button>
-</form>
-<form id="edit" role="dialog" aria-labelledby="edit-title" hidden>
-<b id="edit-title">Edit</b>
-<select id="edit-what" aria-label="What is changed">
-<option value="name">Name</option>
-<option value="note">Note</option>
-<option value="color">Colour</option>
-<option value="flag">Flag</option>
-<option value="place">Place</option>
-<option value="copy">Copy as</option>
-</select>
-<input id="edit-text" type="text" autocomplete="off" spellcheck="false" aria-label="Name">
-<select id="edit-choice" aria-label="Choice" hidden></select>
-<button id="edit-save" class="small" type="submit">Save</button>
-<button id="edit-undo" class="small" type="button" disabled>Undo</button>
-<button id="edit-redo" class="small" type="button" disabled>Redo</button>
-<button id="edit-close" class="small" type="button">Close</button>
 </form>
 <footer aria-label="Commands">
 <div id="words" role="alert">S is STANDBY, space is GO, Esc is CANCEL.</div>

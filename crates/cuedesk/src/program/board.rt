@@ -1,27 +1,21 @@
-//! The command `board`: once as text, or again and again on a terminal. What is drawn is made by `cue_board_window`, by
-//! the newest view; here a desk is heard, and files are read beside it. A board presses nothing.
-ghost use Rattle.std.specs.Prelude.{◌≡◌, IfOk, OnOk, None, map, string_bytes};
-ghost use Rattle.cue_board_window.specs.Beside.{differing_lines};
-ghost use Rattle.cue_desk.specs.declared.ending.Ending.TheVariants.{Failed};
-ghost use Rattle.cue_desk_rounds.specs.Working.{IsUntouched, OnlyLooks};
-ghost use Rattle.cuedesk.specs.Windows as windows;
+//! The command `board`: once as text, or again and again on a terminal.
+ghost use Rattle.std.specs.Prelude.{◌≡◌};
+ghost use Rattle.cuedesk.specs.Windows.{window_of};
 
-use super::beside::{read_log, relay_lines};
-use super::inputs::{InputsWatch, inputs_of};
+mod drawing;
+
 use super::opening::open_desk;
 use super::renewing::{Begun, Renewal, WatchedFile, begin};
 use super::sign::{SignWatch, sign_of};
 use super::web::{devices_path, hear_devices};
-use cue_board::Names;
-use cue_board_window::{Shown, differing_lines, window_lines};
 use cue_desk::ending::Ending;
 use cue_desk_line::Watched;
 use cue_desk_run::{Beat, Desk, Sources};
 use cue_files_run::open_store;
 use cue_saying::{failed, print, say, say_fault};
-use cue_screen::{Screen, joined};
+use cue_screen::Screen;
 use cue_show_file::{Group, ShowFile};
-use std::alloc::AllocError;
+use drawing::joined;
 use std::fs::{File, Files};
 use std::io::{self, Eprint, Write};
 use std::net::Net;
@@ -38,12 +32,23 @@ const PATIENCE: u64 = 1_000;
 
 const FIRST: u64 = 100;
 
+/// The rows of a window, if they are not given.
+const ROWS: u16 = 24;
+
+/// The rows of the window that the board is drawn in; none if it is printed once, as text.
+pub fn window_of(is_once: bool, given: Option<u16>) -> Option<u16>
+    ensures { result ≡ window_of is_once given }
+{
+    if is_once {
+        None
+    } else {
+        Some(given.unwrap_or(ROWS))
+    }
+}
+
 /// The board of one desk.
 #[derive(Drop)]
-struct Board<'a, R>
-where
-    R: Files<File = File> + Net + Clock + AllocGlobal,
-{
+struct Board<'a, R> {
     rt: &'a R,
     desk: Desk<'a, R>,
     dir: &'a str,
@@ -51,9 +56,6 @@ where
     watch: Option<WatchedFile<'a>>,
     sign: Option<SignWatch>,
     is_rehearsed: bool,
-    inputs: Option<InputsWatch<'a>>,
-    // how the programs are that hear buttons
-    input_lines: Vec<String>,
     // what is told of the show file
     told: Option<String>,
     port: u16,
@@ -64,26 +66,17 @@ where
 }
 
 impl<'a, R: Files<File = File> + Net + Clock + AllocGlobal> Board<'a, R> {
-    // Looks for the sign of a rehearsal, and how the programs are that hear buttons.
-    fn look_beside(&mut self) -> io::Result<()>
-        ensures { self.new.desk ≡ self.old.desk }
-    {
+    // Looks for the sign of a rehearsal.
+    fn look_for_sign(&mut self) -> io::Result<()> {
         let now = self.desk.now()?;
         if let Some(sign) = &mut self.sign {
             self.is_rehearsed = sign.look(self.rt, now);
-        }
-        if let Some(inputs) = &mut self.inputs {
-            if let Some(lines) = inputs.fresh(self.rt, now) {
-                self.input_lines = lines;
-            }
         }
         Ok(())
     }
 
     // Looks at the show file, and shows it if it is new. If memory is short, what is told of it stays.
-    fn renew(&mut self) -> io::Result<()>
-        ensures { self.new.desk ≡ self.old.desk }
-    {
+    fn renew(&mut self) -> io::Result<()> {
         let Some(watch) = &mut self.watch else {
             return Ok(());
         };
@@ -96,69 +89,13 @@ impl<'a, R: Files<File = File> + Net + Clock + AllocGlobal> Board<'a, R> {
         }
         Ok(())
     }
-
-    // What it shows, but for the log.
-    fn shown(&self) -> Shown<'_>
-        ensures { windows.IsOf self.now.desk.view result }
-    {
-        Shown {
-            view: self.desk.view(),
-            differences: self.desk.differences(),
-            names: Names {
-                file: self.file.as_ref(),
-                together: self.desk.together(),
-                port: self.port,
-            },
-            told: self.told.as_deref(),
-            is_rehearsed: self.is_rehearsed,
-            rows: self.rows,
-        }
-    }
-
-    // The lines of the newest view, and of what is shown beside it.
-    fn lines(&self) -> Result<Vec<String>, AllocError>
-        ensures { IfOk result (λ lines. windows.ShowsView self.now.desk.view (map string_bytes lines.items)) }
-    {
-        let mut beside = self.input_lines.clone()?;
-        if let Some(path) = self.log {
-            beside.append(&mut read_log(self.rt, path)?)?;
-        }
-        window_lines(self.rt.alloc(), &self.shown(), beside)
-    }
-
-    // What only a second or five of looking would show: why there is nothing of a relay that is watched, and that serve
-    // says otherwise than the files.
-    fn lines_beside(&self) -> Result<Vec<String>, AllocError>
-        ensures { self.now.relay ≡ None → IfOk result (λ lines. map string_bytes lines.items
-            ≡ differing_lines self.now.desk.view.differs self.now.port) }
-    {
-        let mut lines = match self.relay {
-            Some(path) if self.desk.view().network.is_empty() => relay_lines(self.rt, path)?,
-            _ => Vec::new(self.rt.alloc()),
-        };
-        let differs = self.desk.view().differs;
-        lines.append(&mut differing_lines(self.rt.alloc(), differs, self.port)?)?;
-        Ok(lines)
-    }
-
-    // The lines of a board that is printed once.
-    fn all_lines(&self) -> Result<Vec<String>, AllocError>
-        ensures { IfOk result (λ lines. windows.BeginsWithView self.now.desk.view (map string_bytes lines.items)) }
-    {
-        let mut lines = self.lines()?;
-        lines.append(&mut self.lines_beside()?)?;
-        Ok(lines)
-    }
 }
 
 // Goes on until the store was read and a status answered, or so many milliseconds have passed.
-#[tactic(auto, using(cue_desk_rounds::proofs::WorkLemmas::looks_none, cue_desk_rounds::proofs::WorkLemmas::looks_then))]
 fn hear_all<R: Files<File = File> + Net + Clock + AllocGlobal>(
     desk: &mut Desk<'_, R>,
     most: u64,
-) -> io::Result<()>
-    ensures { OnlyLooks desk.old.station desk.new.station }
-{
+) -> io::Result<()> {
     for _ in 0..u64::MAX {
         desk.round()?;
         if desk.view().is_complete() || desk.now()? > most {
@@ -170,9 +107,7 @@ fn hear_all<R: Files<File = File> + Net + Clock + AllocGlobal>(
 }
 
 // Says why the store of this folder was not read.
-fn say_unread<R: Files<File = File> + Eprint + AllocGlobal>(rt: &R, dir: &str) -> Ending
-    ensures { result ≡ Failed }
-{
+fn say_unread<R: Files<File = File> + Eprint + AllocGlobal>(rt: &R, dir: &str) -> Ending {
     if let Err(why) = open_store(rt, dir) {
         say(rt, why.as_str());
     }
@@ -183,48 +118,46 @@ fn say_unread<R: Files<File = File> + Eprint + AllocGlobal>(rt: &R, dir: &str) -
 fn print_once<R: Files<File = File> + Net + Clock + Eprint + AllocGlobal, W: Write>(
     board: &mut Board<'_, R>,
     writer: &mut W,
-) -> Result<(), Ending>
-    ensures looks { OnlyLooks board.old.desk.station board.new.desk.station }
-    ensures printed { OnOk result (windows.PrintsOnce board.new.desk.view (W.contents writer.old)
-        (W.contents writer.new)) }
-{
+) -> Result<(), Ending> {
     if let Err(why) = hear_all(&mut board.desk, PATIENCE) {
         return Err(failed(board.rt, &why));
     }
     if board.desk.view().read.is_none() {
         return Err(say_unread(board.rt, board.dir));
     }
-    if let Err(why) = board.look_beside() {
+    if let Err(why) = board.look_for_sign() {
         return Err(failed(board.rt, &why));
     }
     let lines = board.all_lines()?;
     print(writer, joined(board.rt.alloc(), &lines)?.as_str())
 }
 
+// Hears what is there at first, after which a picture is due.
+fn first_round<R: Files<File = File> + Net + Clock + AllocGlobal>(
+    desk: &mut Desk<'_, R>,
+) -> io::Result<bool> {
+    hear_all(desk, FIRST)?;
+    Ok(true)
+}
+
 // Hears what is there; answers whether a picture is due.
-#[tactic(auto, using(cue_desk_rounds::proofs::WorkLemmas::looks_none))]
 fn round<R: Files<File = File> + Net + Clock + AllocGlobal>(
     board: &mut Board<'_, R>,
     pictures: &mut Beat,
-) -> io::Result<bool>
-    ensures { OnlyLooks board.old.desk.station board.new.desk.station }
-{
+) -> io::Result<bool> {
     board.desk.wait(PAUSE)?;
     board.desk.round()?;
     board.renew()?;
-    board.look_beside()?;
+    board.look_for_sign()?;
     Ok(pictures.is_due(board.desk.now()?))
 }
 
 // Draws the picture that is due.
 fn draw<R: Files<File = File> + Net + Clock + Eprint + AllocGlobal, W: Write>(
-    board: &Board<'_, R>,
+    board: &mut Board<'_, R>,
     screen: &mut Screen,
     writer: &mut W,
-) -> Result<(), Ending>
-    ensures { OnOk result (windows.Draws board.now.desk.view screen.old screen.new (W.contents writer.old)
-        (W.contents writer.new)) }
-{
+) -> Result<(), Ending> {
     let lines = board.lines()?;
     let picture = screen.picture(board.rt.alloc(), lines)?;
     print(writer, picture.as_str())
@@ -236,11 +169,7 @@ fn show_round<R: Files<File = File> + Net + Clock + Eprint + AllocGlobal, W: Wri
     screen: &mut Screen,
     is_due: io::Result<bool>,
     writer: &mut W,
-) -> Result<(), Ending>
-    ensures station { board.new.desk.station ≡ board.old.desk.station }
-    ensures drawn { OnOk result (windows.DrawsIf is_due board.old.desk.view screen.old screen.new
-        (W.contents writer.old) (W.contents writer.new)) }
-{
+) -> Result<(), Ending> {
     match is_due {
         Ok(true) => draw(board, screen, writer)?,
         Ok(false) => {}
@@ -250,43 +179,34 @@ fn show_round<R: Files<File = File> + Net + Clock + Eprint + AllocGlobal, W: Wri
     Ok(())
 }
 
-// Draws the first picture, and goes on round by round, until the terminal or a signal ends it: by itself it ends only
-// by a failure.
-#[tactic(auto, using(cue_desk_rounds::proofs::WorkLemmas::looks_none, cue_desk_rounds::proofs::WorkLemmas::looks_then))]
+// Draws the first picture, and goes on round by round.
 fn show_rounds<R: Files<File = File> + Net + Clock + Eprint + AllocGlobal, W: Write>(
     board: &mut Board<'_, R>,
     screen: &mut Screen,
     writer: &mut W,
-) -> Result<(), Ending>
-    ensures looks { OnlyLooks board.old.desk.station board.new.desk.station }
-    ensures ends { OnOk result ⊥ }
-{
+) -> Result<(), Ending> {
     let mut pictures = Beat::of(PICTURE);
-    let first = hear_all(&mut board.desk, FIRST).and(Ok(true));
-    show_round(board, screen, first, writer)?;
+    let is_due = first_round(&mut board.desk);
+    show_round(board, screen, is_due, writer)?;
     for _ in 0..u64::MAX {
         let is_due = round(board, &mut pictures);
         show_round(board, screen, is_due, writer)?;
     }
-    Err(Ending::Failed)
+    Ok(())
 }
 
 // The board until the terminal or a signal ends it.
 fn show_on<R: Files<File = File> + Net + Clock + Eprint + AllocGlobal, W: Write>(
     board: &mut Board<'_, R>,
     writer: &mut W,
-) -> Result<(), Ending>
-    ensures looks { OnlyLooks board.old.desk.station board.new.desk.station }
-    ensures ends { OnOk result ⊥ }
-{
+) -> Result<(), Ending> {
     let mut screen = Screen::new(board.rt.alloc());
     let shown = show_rounds(board, &mut screen, writer);
     drop(screen);
     shown
 }
 
-// The board of a desk that begins with this show file, where these cues stand by together. It asks the controller at
-// this port, and has pressed nothing.
+// The board of a desk that begins with this show file, where these cues stand by together.
 fn open_board<'a, R: Files<File = File> + Net + Clock + Eprint + AllocGlobal>(
     rt: &'a R,
     watched: &'a Watched,
@@ -294,11 +214,7 @@ fn open_board<'a, R: Files<File = File> + Net + Clock + Eprint + AllocGlobal>(
     sign: Option<SignWatch>,
     begun: Begun<'a>,
     together: &'a [Group],
-) -> Result<Board<'a, R>, Ending>
-    ensures untouched { IfOk result (λ board. IsUntouched board.desk.station) }
-    ensures port { IfOk result (λ board. board.desk.asks.outlet.way.port ≡ begun.port) }
-    ensures together { IfOk result (λ board. board.desk.asks.outlet.way.together.now ≡ together.now) }
-{
+) -> Result<Board<'a, R>, Ending> {
     let sources = Sources {
         name: None,
         dir: watched.dir.as_str(),
@@ -323,8 +239,6 @@ fn open_board<'a, R: Files<File = File> + Net + Clock + Eprint + AllocGlobal>(
         watch,
         sign,
         is_rehearsed: false,
-        inputs: inputs_of(watched.file.as_deref()),
-        input_lines: Vec::new(rt.alloc()),
         told: None,
         port,
         log: watched.log.as_deref(),
@@ -339,9 +253,7 @@ pub fn show_board<R: Files<File = File> + Net + Clock + Eprint + AllocGlobal, W:
     watched: &Watched,
     rows: Option<u16>,
     writer: &mut W,
-) -> Result<(), Ending>
-    ensures { OnOk result (windows.IsBoard rows (W.contents writer.old) (W.contents writer.new)) }
-{
+) -> Result<(), Ending> {
     let sign = sign_of(rt.alloc(), watched.file.as_deref())?;
     let places = devices_path(rt.alloc(), watched.alarms.as_deref())?;
     let (begun, together) = begin(rt, watched.file.as_deref(), watched.port)?;
@@ -349,9 +261,10 @@ pub fn show_board<R: Files<File = File> + Net + Clock + Eprint + AllocGlobal, W:
     if let Some(path) = places.as_deref() {
         hear_devices(rt, path, &mut board.desk);
     }
-    let shown = match rows {
-        None => print_once(&mut board, writer),
-        Some(_) => show_on(&mut board, writer),
+    let shown = if rows.is_none() {
+        print_once(&mut board, writer)
+    } else {
+        show_on(&mut board, writer)
     };
     drop(board);
     shown

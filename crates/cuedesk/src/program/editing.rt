@@ -49,9 +49,9 @@ fn make_anew<R: Files<File = File>>(rt: &R, path: &str, text: &str, show: &str) 
     file.sync_all()
 }
 
-/// Has the show file hold a new text, and the file beside it the one before. At each moment both are whole; a stop
-/// between the two steps leaves the show file as it was, and so does a failure. The page and `table` write so, too.
-pub fn keep_both<R: Files<File = File> + AllocGlobal>(
+// Has the show file hold a new text, and the file beside it the one before. At each moment both are whole; a stop
+// between the two steps leaves the show file as it was.
+fn keep_both<R: Files<File = File> + AllocGlobal>(
     rt: &R,
     path: &str,
     old: &str,
@@ -79,15 +79,15 @@ fn swap_both<R: Files<File = File> + AllocGlobal>(
     fs::rename(rt, beside.new_before.as_str(), beside.before.as_str())
 }
 
-/// Says why a file was not read or written.
-pub fn failed<R: Eprint>(rt: &R, path: &str, why: &io::Error) -> Ending {
+// Says why a file was not read or written.
+fn failed<R: Eprint>(rt: &R, path: &str, why: &io::Error) -> Ending {
     let path = Shown { text: path };
     say(rt, format_args!("{path}: {why}"));
     Ending::Failed
 }
 
-/// The text of a file; else why it was not read is said.
-pub fn text_of<R: Files<File = File> + Eprint + AllocGlobal>(
+// The text of a file; else why it was not read is said.
+fn text_of<R: Files<File = File> + Eprint + AllocGlobal>(
     rt: &R,
     path: &str,
 ) -> Result<String, Ending> {
@@ -105,8 +105,8 @@ fn say_mistakes<R: Eprint>(rt: &R, path: &str, found: &[Finding]) {
     }
 }
 
-/// Says why a change is refused.
-pub fn refuse<R: Eprint + AllocGlobal>(
+// Says why a change is refused.
+fn refuse<R: Eprint + AllocGlobal>(
     rt: &R,
     path: &str,
     edit: &Edit,

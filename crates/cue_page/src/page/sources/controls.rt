@@ -14,12 +14,6 @@ pub(super) const TEXT: &str = r#"
 #lock label { overflow-wrap: anywhere; }
 #lock-word { font: inherit; min-width: 6rem; flex: 1; max-width: 20rem; color: var(--text); background: var(--panel);
   border: 1px solid var(--edge); border-radius: .3rem; padding: .1rem .5rem; -webkit-text-security: disc; }
-#lock:not([hidden]) ~ #edit { display: none; }
-#edit { grid-row: 5; display: flex; flex-wrap: wrap; gap: .4rem .6rem; align-items: baseline; padding: .5rem 1.4rem;
-  background: var(--chip); border-top: 3px solid var(--blue); overflow-wrap: anywhere; }
-#edit input, #edit select { font: inherit; min-width: 5rem; max-width: 100%; color: var(--text);
-  background: var(--panel); border: 1px solid var(--edge); border-radius: .3rem; padding: .1rem .5rem; }
-#edit input, #edit-choice { flex: 1; }
 footer { grid-row: 6; display: grid; grid-template-columns: 3fr 2fr 4fr; gap: .7rem 2.5rem; padding: .7rem 1.4rem 1rem;
   border-top: 1px solid var(--line); }
 .readonly footer { display: none; }
@@ -40,8 +34,7 @@ footer button span { font-size: 1rem; font-weight: 600; }
 .rehearsed footer { border-top: 8px solid var(--amber-fill); }
 .rehearsed #go b::after { content: " rehearsal"; font-size: 1.2rem; letter-spacing: 0; }
 footer button:disabled { background: var(--off); color: var(--soft); border-color: var(--line); cursor: default; }
-button:focus-visible, input:focus-visible, select:focus-visible, #list:focus-visible {
-  outline: 4px solid var(--focus); outline-offset: 2px; }
+button:focus-visible, input:focus-visible, #list:focus-visible { outline: 4px solid var(--focus); outline-offset: 2px; }
 #list:focus-visible { outline-offset: -4px; }
 #flash { position: fixed; inset: 0; border: 16px solid var(--red-fill); pointer-events: none; opacity: 0; z-index: 9; }
 #flash.is-new { animation: flash .8s ease-in-out 3; }

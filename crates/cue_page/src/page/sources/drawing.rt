@@ -19,11 +19,9 @@ function draw() {
   if (!view) return;
   wasDark = isDark();
   showManner();
-  showEdits();
   showStack();
   showLive();
   showWhereabouts();
-  showInputs();
   showTimes();
   showEnds();
   showSpoken();

@@ -20,9 +20,6 @@ h2 { font-size: .8rem; letter-spacing: .14em; text-transform: uppercase; color: 
   font-weight: 700; white-space: nowrap; }
 #rehearsal { flex: 1 0 100%; color: var(--on-amber); background: var(--amber-fill); padding: .1rem .8rem;
   font-weight: 800; border-radius: .3rem; letter-spacing: .04em; }
-#inputs { order: 1; flex: 1 0 100%; display: flex; flex-wrap: wrap; gap: .2rem .9rem; color: var(--soft); font-size: .9rem; }
-#inputs .bad { background: var(--red-fill); color: var(--on-red); padding: 0 .6rem; border-radius: .3rem;
-  font-weight: 700; }
 #clocks { display: flex; flex-wrap: wrap; gap: .2rem .9rem; align-items: baseline; white-space: nowrap; }
 #wall { font-weight: 700; }
 #ended { min-width: 0; overflow-wrap: anywhere; flex: 1 1 14rem; }
@@ -58,9 +55,6 @@ section { min-height: 0; min-width: 0; overflow: auto; }
   content-visibility: auto; contain-intrinsic-size: auto 3.4rem; }
 #stack li[aria-current] { background: var(--panel); border-color: var(--amber); font-weight: 700; }
 #stack li.found { border-color: var(--blue); }
-#stack .acts { display: flex; gap: .3rem; }
-.unedited .edit { display: none; }
-.has-live .edit { visibility: hidden; }
 #stack .note { grid-column: 4 / -1; font-weight: 400; color: var(--soft); font-size: .9rem; }
 .mark { color: var(--amber); }
 .bar { grid-row: 1 / span 2; align-self: stretch; background: var(--mark, transparent); border-radius: .2rem; }

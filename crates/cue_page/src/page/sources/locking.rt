@@ -1,5 +1,4 @@
-//! The show lock: a move of the place, a release and an edit want a word. It is kept here alone, and for a minute
-//! without use.
+//! The show lock: a move of the place and a release want a word. It is kept here alone, and for a minute without use.
 //! Made by `tools/page` of `page/script/locking.js`: change that.
 
 /// The text of this element.
@@ -8,7 +7,7 @@ pub(super) const TEXT: &str = r#"
 const HELD = 60000;
 let word = { text: "", until: 0 }, waiting = "";
 
-const wantsWord = (press) => manner.locked && ["goto", "release", "edit"].includes(press.split(" ")[0]);
+const wantsWord = (press) => manner.locked && (press.startsWith("goto ") || press.startsWith("release "));
 const hasWord = () => word.text !== "" && now() < word.until;
 
 // The word for this press, if it wants one; a use keeps it for another minute.

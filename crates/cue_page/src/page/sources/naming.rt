@@ -30,7 +30,6 @@ const ASKED = {
   goto: (cue) => "Move to " + namedCue(cue),
   choose: (attempt) => "Choose for GO" + withCue(" of ", attempt),
   seen: (attempt) => "Seen" + withCue(" of ", attempt),
-  edit: (cue) => ({ undo: "Undo of the last edit", redo: "Redo of the edit" })[cue] || "Edit of " + namedCue(cue),
 };
 const DONE = {
   standby: (cue) => "STANDBY given for " + namedCue(cue),

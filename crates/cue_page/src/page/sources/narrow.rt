@@ -10,8 +10,6 @@ pub(super) const TEXT: &str = r#"
 .low #ended, .low #told { white-space: nowrap; overflow: hidden; text-overflow: ellipsis; }
 .low #rehearsal { flex: 0 0 auto; padding: 0 .6rem; }
 .low #rehearsal span { display: none; }
-.low #inputs { order: 0; flex: 0 1 auto; min-width: 0; overflow: hidden; white-space: nowrap; }
-.low #inputs div:not(.bad), .narrow #inputs div:not(.bad) { display: none; }
 .low #tools { flex-wrap: nowrap; }
 .low #clocks { min-width: 0; overflow: hidden; flex-wrap: nowrap; }
 .slim #last-go, .low.slim #rehearsal:not([hidden]) ~ #clocks #wall, .narrow #wall { display: none; }
@@ -31,7 +29,7 @@ pub(super) const TEXT: &str = r#"
 .low .next .flag, .low .next .flag.danger { font-size: 1.1rem; margin: 0; }
 .low #stack li { padding: .05rem .3rem .05rem 0;
   grid-template-columns: .4rem .9rem minmax(1.5rem, auto) minmax(0, 1fr); }
-.low #stack li .acts { grid-column: 4; justify-self: start; }
+.low #stack li .small { grid-column: 4; justify-self: start; }
 .low .attempt { padding: .2rem .6rem; margin-top: .2rem; }
 .low .attempt h3 { font-size: 1.1rem; }
 .low #whereabouts { margin-top: .2rem; }
@@ -45,7 +43,7 @@ pub(super) const TEXT: &str = r#"
 .slim td:nth-child(2) { min-width: 3.5rem; }
 .low .small { padding: 0 .4rem; }
 .low #find { min-width: 3rem; padding: 0 .3rem; }
-.low #lock, .low #edit { padding: .2rem .8rem; }
+.low #lock { padding: .2rem .8rem; }
 .low footer { padding: .3rem .8rem .4rem; gap: .3rem .8rem; }
 .low #words { min-height: 1.5rem; padding: .05rem .6rem; font-size: .95rem; }
 .low footer button { min-height: 3rem; }
@@ -60,8 +58,6 @@ pub(super) const TEXT: &str = r#"
 .narrow section { overflow: visible; }
 .narrow #rest { margin-top: 1rem; display: block; }
 .narrow #list { max-height: 60vh; }
-.narrow #edit { padding: .3rem .8rem; }
-.narrow .acts { flex-wrap: wrap; justify-content: end; max-width: 6rem; }
 .narrow .next strong { font-size: 1.3rem; }
 .narrow .next .flag.danger { font-size: 1.5rem; }
 .narrow footer { grid-template-columns: 1fr 1fr; gap: .5rem .8rem; padding: .4rem .8rem .6rem; }

@@ -63,9 +63,8 @@ function take(told, asked) {
   const isFirst = run === null;
   run = told.run;
   manner = { locked: told.locked, readonly: told.readonly, told: told.told, rehearsed: told.rehearsed,
-    marks: told.marks, edits: told.edits, inputs: told.inputs };
+    marks: told.marks };
   if (isFirst) recallAll();
-  if (view && told.view.number === view.number) { takeNames(told.names); draw(); }
   if (view && told.view.number <= view.number) return;
   view = told.view;
   heard = asked;
@@ -102,7 +101,6 @@ function unsent(press, told) {
 
 // Reports a press of the view that is drawn. What became of it stands in the views that follow.
 async function send(press) {
-  if (press.startsWith("edit ")) { sendEdit(press); return; }
   if (isDark()) { say(pressWords(press) + ": not sent: the desk does not answer", "refused", NOTED); return; }
   if (asksFirst(press)) return;
   const text = wordFor(press);
@@ -139,7 +137,7 @@ function fieldKey(event) {
       () => document.activeElement instanceof HTMLInputElement);
 }
 
-for (const id of ["find", "lock-word", "edit-text"]) at(id).addEventListener("keydown", fieldKey);
+for (const id of ["find", "lock-word"]) at(id).addEventListener("keydown", fieldKey);
 
 // The same of a space that presses another button, since that has the focus.
 function otherKey() {

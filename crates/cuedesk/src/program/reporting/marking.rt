@@ -1,6 +1,5 @@
 //! The command `mark`: when the curtain goes up or down, in a file beside the log.
-ghost use Rattle.std.specs.Prelude.{◌≡◌, ◌⊎◌, IfErr, IfOk, OnOk, string_bytes};
-ghost use Rattle.cue_desk.specs.declared.ending.Ending.TheVariants.{Unwritten};
+ghost use Rattle.std.specs.Prelude.{IfOk, OnOk, string_bytes};
 ghost use Rattle.cue_report.specs.Marks.{IsLineOf};
 ghost use Rattle.cuedesk.specs.Marking as marking;
 
@@ -74,8 +73,7 @@ pub fn mark_curtain<R: Files<File = File> + Clock + Eprint + AllocGlobal, W: Wri
     curtain: Curtain,
     writer: &mut W,
 ) -> Result<(), Ending>
-    ensures said { OnOk result (marking.IsSaid curtain (W.contents writer.old) (W.contents writer.new)) }
-    ensures nothing { IfErr result (λ ending. (ending ≡ Unwritten) ⊎ (W.contents writer.new ≡ W.contents writer.old)) }
+    ensures { OnOk result (marking.IsSaid curtain (W.contents writer.old) (W.contents writer.new)) }
 {
     match write_mark(rt, path, curtain) {
         Ok(marked) => print(writer, marked.as_str()),

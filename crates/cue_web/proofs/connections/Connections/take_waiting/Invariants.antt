@@ -4,5 +4,5 @@ use Rattle.cue_web.proofs.connections.Connections.take_waiting.Given as goal
 
 -- so many came
 abbrev pub invariant-loop : goal.invariant-loop
-invariant-loop g l =
+invariant-loop l =
     ComeSoFar (vec_capacity l.fn.self.here) (vec_capacity l.self.here) l.fn.self.here.items l.self.here.items l.counter

@@ -1,6 +1,0 @@
-use Rattle.cue_desk_rounds.proofs.LawLemmas.{only_asks}
-use Rattle.cue_desk_rounds.proofs.laws.rounds_only_ask.Goals as goal
-
--- src/laws.rt
-pub returns : goal.returns
-returns c = only_asks

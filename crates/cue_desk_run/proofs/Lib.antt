@@ -1,0 +1,6 @@
+mod AskLemmas
+mod HearLemmas
+mod LawLemmas
+mod LeaveLemmas
+mod ReadLemmas
+pub mod WorkLemmas

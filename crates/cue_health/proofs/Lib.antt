@@ -1,4 +1,0 @@
-mod HealthLemmas
-mod LineLemmas
-mod StandingLemmas
-mod WrittenLemmas

@@ -1,3 +1,0 @@
-pub mod Drawn
-pub mod Hearing
-pub mod Ranges

@@ -1,4 +1,0 @@
-mod EditLemmas
-mod LawLemmas
-mod SaidLemmas
-mod WrittenLemmas

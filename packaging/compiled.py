@@ -3,7 +3,6 @@
 For x86-64 the kit makes a whole program. For arm64 it proves a program and compiles it, and has no linker for it: so
 Debian's gcc links the object, with packaging/arm64/runtime.c in place of what the kit has in C for x86-64.
 """
-import re
 import shutil
 import subprocess
 import sys
@@ -54,48 +53,22 @@ def launched(name, is_trial):
 
 def linked(name):
     """A proved program for arm64."""
-    made, other = kept(name, ARM64), launched(name, False)
+    made, other = kept(name, ARM64), launched(name, False)  # which has all crates below it proved
     if not made.exists() or made.stat().st_mtime < max(path.stat().st_mtime for path in (RUNTIME, other)):
         made.parent.mkdir(exist_ok=True)
-        with tempfile.TemporaryDirectory() as folder:
-            link(proved_object(name, Path(folder) / "proved"), made)
+        link(proved_object(ROOT / "crates" / name), made)
     return made
 
 
-def proved_object(name, folder):
-    """The object of a program for arm64, made in this new folder. What the program stands on is proved there, as the
-    gate does it. `rt` builds programs for x86-64 alone: so the kit's compiler is called, as `rt` calls it. It proves
-    the program's own crate, and compiles it with what it reaches of the others."""
-    proved = subprocess.run([ROOT / "tools" / "prove", name, folder], text=True, check=False,
-                            stdin=subprocess.DEVNULL, stdout=subprocess.PIPE, stderr=subprocess.STDOUT)
-    made = folder / f"{name}.o"
-    built = proved if proved.returncode else subprocess.run(
-        [kit() / "bin" / "rattle", "build", *words(name, folder), "--target", ARM64.target, "-o", made], text=True,
-        cwd=folder / "crates" / name, check=False, stdout=subprocess.PIPE, stderr=subprocess.STDOUT)
-    if built.returncode or not re.search(r"^logic=proved ", built.stdout, re.M):
-        sys.exit(f"{built.stdout[-3000:]}\n{name} was not proved and compiled for arm64")
+def proved_object(crate):
+    """The object of a program for arm64. The kit writes it once all is proved, and then fails, as it links."""
+    made = crate / "out" / f"{crate.name}.o"
+    made.unlink(missing_ok=True)
+    done = subprocess.run(["rt", "run", "--target", ARM64.target, "--", "--version"], cwd=crate, text=True, check=False,
+                          stdin=subprocess.DEVNULL, stdout=subprocess.PIPE, stderr=subprocess.STDOUT)
+    if not made.exists():
+        sys.exit(f"{done.stdout[-3000:]}\n{crate.name} was not compiled for arm64")
     return made
-
-
-def kit():
-    """The folder of the kit."""
-    return Path(subprocess.run(["rt", "doc"], stdout=subprocess.PIPE, check=True, text=True).stdout.strip()).parent
-
-
-def words(name, folder):
-    """What the kit's compiler is told of a program whose crates were proved in the folder, as `rt ci` tells it."""
-    at, libraries = kit(), {}
-    for each in re.findall(r"^\w+", (folder / "crates.txt").read_text(), re.M):
-        libraries[each] = folder / "crates" / each / "out" / "rlib"
-    del libraries[name]
-    uses = re.search(rf"^{name}\b[^:]*:(.*)$", (folder / "crates.txt").read_text(), re.M)[1].split()
-    yield from ("--crate-name", name, "src/main.rt", "-L", f"dependency={at}/rlibs", "--links", f"{name}=")
-    yield from ("--antt-project", f"{at}/rattle/logic/antt-project.json", "--logic-built", f"{at}/logic_built")
-    yield from ("--toolchain", f"{at}/toolchain")
-    for each in ("std", *uses):
-        yield from ("--extern", f"{each}={libraries.get(each, at / 'rlibs')}/{each}.rlib")
-    for each in libraries.values():
-        yield from ("-L", f"dependency={each}")
 
 
 def link(compiled, made):
